@@ -1,0 +1,42 @@
+-- The paper's numbers of an answer.
+--     reasonNumber r      the number of reason r in the table of answers
+--     numbered a          answer a as numbers: its name (0 pass, 1 msi, 2 held, 3 ones, 4 drop, 5 refuse, 6 done), its reason (0: none),
+--                         its value (an address, an interrupt number, all ones, or 0), the count of table words read, and its PE, server and
+--                         priority (0 where an answer has none)
+-- Assumes nothing.
+use Prim.Native.Nat.{ℕ}
+use Rattle.kinds.specs.declared.answer.Answer.{Answer}
+use Rattle.kinds.specs.declared.answer.Answer.the-variants.{Pass, Msi, Held, Ones, Drop, Refuse, Done}
+use Rattle.kinds.specs.declared.answer.Numbers.{Numbers}
+use Rattle.kinds.specs.declared.answer.Reason.{Reason}
+use Rattle.kinds.specs.declared.answer.Reason.the-variants.{TableLength, BadRequest, UnknownRequester, DmaStopped, AddressClass, BadEntry, OutsideWindow, TableWord, MsiRefused, NoWindow, MmioStopped, ErrorMessage, FrozenAsPeer, BadFirmware, OutsideMemory}
+
+abbrev pub reasonNumber : Reason → ℕ
+reasonNumber TableLength = 1
+reasonNumber BadRequest = 2
+reasonNumber UnknownRequester = 3
+reasonNumber DmaStopped = 4
+reasonNumber AddressClass = 5
+reasonNumber BadEntry = 6
+reasonNumber OutsideWindow = 7
+reasonNumber TableWord = 8
+reasonNumber MsiRefused = 9
+reasonNumber NoWindow = 10
+reasonNumber MmioStopped = 11
+reasonNumber ErrorMessage = 12
+reasonNumber FrozenAsPeer = 13
+reasonNumber BadFirmware = 14
+reasonNumber OutsideMemory = 15
+
+-- an answer that names no PE, server or priority
+abbrev pub plain : (name reason value words : ℕ) → Numbers
+plain n r v w = record { name = n; reason = r; value = v; words = w; pe = 0; server = 0; priority = 0 }
+
+abbrev pub numbered : Answer → Numbers
+numbered (Pass a p w) = record { name = 0; reason = 0; value = a .0; words = w; pe = p .0; server = 0; priority = 0 }
+numbered (Msi n s p) = record { name = 1; reason = 0; value = n; words = 0; pe = 0; server = s; priority = p }
+numbered (Held n) = plain 2 0 n 0
+numbered (Ones v) = plain 3 11 v 0
+numbered Drop = plain 4 11 0 0
+numbered (Refuse r w) = plain 5 (reasonNumber r) 0 w
+numbered Done = plain 6 0 0 0

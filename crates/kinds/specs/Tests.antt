@@ -1,0 +1,44 @@
+-- Reasoning by the value of a test.
+--     by-cases b f g      go by the two values of b
+--     clash p q           a test is not both true and false
+--     and-left, and-right the parts of a conjunction that holds; and-both puts them together
+--     or-cases            the part of a disjunction that holds; or-left and or-right put one in
+--     tests               the rule set that turns a fact about numbers into the value of its test
+-- Assumes nothing.
+use mathlib.Core.Path.{_≡_, refl, sym}
+use mathlib.Core.Bool.{Bool, true, false, _&&_, _||_}
+use Prim.Native.Nat.{ℕ}
+use native.Mathlib.Omega.{arith}
+use borrow.Author.Tests.{lt-ltb, le-ltb, lt-leb, le-leb, eq-eqb, ne-eqb}
+
+pub ruleset tests = (lt-ltb, le-ltb, lt-leb, le-leb, eq-eqb, ne-eqb)
+
+pub by-cases : {P : Type 0} (b : Bool) → (b ≡ true → P) → (b ≡ false → P) → P
+by-cases true f g = f refl
+by-cases false f g = g refl
+
+pub clash : {P : Type 0} {b : Bool} → b ≡ true → b ≡ false → P
+clash p q = let z : _≡_ {A = Bool} true false = cc in absurd (let y : _≡_ {A = ℕ} 0 1 = cc in omega arith)
+
+pub and-left : (a b : Bool) → (a && b) ≡ true → a ≡ true
+and-left true b e = refl
+and-left false b e = e
+
+pub and-right : (a b : Bool) → (a && b) ≡ true → b ≡ true
+and-right true b e = e
+and-right false b e = clash e refl
+
+pub and-both : (a b : Bool) → a ≡ true → b ≡ true → (a && b) ≡ true
+and-both a b p q = rw (p, q)
+
+pub or-cases : {P : Type 0} (a b : Bool) → (a || b) ≡ true → (a ≡ true → P) → (b ≡ true → P) → P
+or-cases true b e f g = f refl
+or-cases false b e f g = g e
+
+pub or-left : (a b : Bool) → a ≡ true → (a || b) ≡ true
+or-left true b e = refl
+or-left false b e = clash refl (sym e)
+
+pub or-right : (a b : Bool) → b ≡ true → (a || b) ≡ true
+or-right true b e = refl
+or-right false b e = e

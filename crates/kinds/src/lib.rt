@@ -1,0 +1,6 @@
+// The kinds of value that the bridge speaks of. Nothing here knows the profile.
+pub mod answer;
+pub mod number;
+pub mod outcome;
+pub mod record;
+pub mod request;

@@ -1,0 +1,54 @@
+// What is asked of the bridge. The numbers are as wide as a caller can bring them: they become kinds when they have been found good.
+use crate::number::ByteAddress;
+
+pub enum Direction {
+    Read,
+    Write,
+}
+
+// What an address of a DMA asks for, by its top four bits.
+pub enum AddressClass {
+    Dma,
+    Msi32,
+    Msi64,
+    Unserved,
+}
+
+// The part of a PE's state that firmware clears.
+pub enum Part {
+    Mmio,
+    Dma,
+    Record,
+}
+
+pub enum Request {
+    Dma {
+        requester: u64,
+        direction: Direction,
+        address: ByteAddress,
+        length: u64,
+        data: u32,
+    },
+    Load {
+        address: ByteAddress,
+        width: u64,
+    },
+    Store {
+        address: ByteAddress,
+        width: u64,
+    },
+    Error {
+        requester: u64,
+    },
+    Clear {
+        pe: u64,
+        part: Part,
+    },
+    End {
+        interrupt: u64,
+    },
+    Priority {
+        interrupt: u64,
+        priority: u64,
+    },
+}

@@ -1,0 +1,106 @@
+-- 01, 'DMA': the class of an address, the translation entry that it picks, and what the entry says before memory is read.
+--     classOf a           what address bits 63 to 60 ask for; within class 0, 0xFFFF0000..0xFFFFFFFF is the 32-bit MSI window
+--     entry f p h         the first (h = 0) or second (h = 1) record of PE p
+--     half a, offset a    bit 59 of the address, and its low 59 bits
+--     pageSize e          the page size of page code 1, 5, 13 or 17: 2 ^ (code + 11) bytes
+--     indexBits e         a table has 2 ^ (code + 8) words
+--     span e              page bits plus levels times index bits
+--     tableGood e         table code 1 to 31
+--     bypass e            page code 0; bypassGood e: start below end, end at most 2 ^ 35, in units of 16 MiB
+--     pagesGood e         a known page code, 1 to 5 levels, an aligned base, a span of at most 59
+--     walks e a           the entry is good and has pages, and the offset is inside them: the page table is walked
+--     unwalked p e a      else: bypass, 6 or 7
+--     passed, refused, failed     an outcome: a pass; a refusal that changes nothing; a refusal that freezes
+-- Assumes nothing.
+use mathlib.Core.Bool.{Bool, true, false, cond, not, _&&_, _||_}
+use Prim.Native.Nat.{ℕ, _+_, _*_, _/_, _%_, _^_}
+use lib.Dec.{leb, ltb, eqb}
+use Rattle.kinds.specs.Number.{pageBits, pageNumber}
+use Rattle.kinds.specs.Words.{at}
+use Rattle.kinds.specs.declared.answer.Answer.the-variants.{Pass, Refuse}
+use Rattle.kinds.specs.declared.answer.Reason.{Reason}
+use Rattle.kinds.specs.declared.answer.Reason.the-variants.{BadEntry, OutsideWindow}
+use Rattle.kinds.specs.declared.number.ByteAddress.{ByteAddress}
+use Rattle.kinds.specs.declared.number.PageNumber.{PageNumber}
+use Rattle.kinds.specs.declared.number.PageSize.{PageSize}
+use Rattle.kinds.specs.declared.number.PageSize.the-variants.{K4, K64, M16, M256}
+use Rattle.kinds.specs.declared.number.PeNumber.{PeNumber}
+use Rattle.kinds.specs.declared.outcome.Effect.the-variants.{Keep, Freeze}
+use Rattle.kinds.specs.declared.outcome.Outcome.{Outcome}
+use Rattle.kinds.specs.declared.record.TranslationEntry.{TranslationEntry}
+use Rattle.kinds.specs.declared.request.AddressClass.{AddressClass}
+use Rattle.kinds.specs.declared.request.AddressClass.the-variants.{Dma, Msi32, Msi64, Unserved}
+use Rattle.profile.specs.Tables.{Tables, entryWords, recordWords}
+
+abbrev pub passed : PeNumber → ByteAddress → (words : ℕ) → Outcome
+passed p a n = record { answer = Pass a p n; effect = Keep }
+
+abbrev pub refused : Reason → Outcome
+refused r = record { answer = Refuse r 0; effect = Keep }
+
+abbrev pub failed : Reason → ByteAddress → (words : ℕ) → Outcome
+failed r a n = record { answer = Refuse r n; effect = Freeze r (a .0) }
+
+unfoldable pub classOf : ByteAddress → AddressClass
+classOf a =
+    cond (eqb (a .0 / 2 ^ 60) 0) (cond (leb 0xFFFF0000 (a .0) && leb (a .0) 0xFFFFFFFF) Msi32 Dma)
+    (cond (eqb (a .0 / 2 ^ 60) 1) Msi64 Unserved)
+
+abbrev pub half : ByteAddress → ℕ
+half a = a .0 / 2 ^ 59 % 2
+
+abbrev pub offset : ByteAddress → ByteAddress
+offset a = record { 0 = a .0 % 2 ^ 59 }
+
+abbrev pub entry : Tables → PeNumber → (half : ℕ) → TranslationEntry
+entry f p h = record {
+  base = at (f .entries) (p .0 * entryWords + h * recordWords);
+  levels = at (f .entries) (p .0 * entryWords + (h * recordWords + 1));
+  table = at (f .entries) (p .0 * entryWords + (h * recordWords + 2));
+  page = at (f .entries) (p .0 * entryWords + (h * recordWords + 3));
+}
+
+unfoldable pub pageSize : TranslationEntry → PageSize
+pageSize e = cond (eqb (e .page) 5) K64 (cond (eqb (e .page) 13) M16 (cond (eqb (e .page) 17) M256 K4))
+
+abbrev pub pageOf : TranslationEntry → ByteAddress → PageNumber
+pageOf e a = pageNumber (pageSize e) (offset a)
+
+abbrev pub indexBits : TranslationEntry → ℕ
+indexBits e = e .table + 8
+
+unfoldable pub span : TranslationEntry → ℕ
+span e = pageBits (pageSize e) + e .levels * indexBits e
+
+-- a multiple of the bytes of a table of 2 ^ bits words
+unfoldable pub aligned : (bits : ℕ) → ByteAddress → Bool
+aligned bits b = eqb (b .0 % 2 ^ (3 + bits)) 0
+
+unfoldable pub tableGood : TranslationEntry → Bool
+tableGood e = leb 1 (e .table) && leb (e .table) 31
+
+abbrev pub bypass : TranslationEntry → Bool
+bypass e = eqb (e .page) 0
+
+unfoldable pub bypassGood : TranslationEntry → Bool
+bypassGood e = ltb (e .base) (e .levels) && leb (e .levels) (2 ^ 35)
+
+unfoldable pub pagesGood : TranslationEntry → Bool
+pagesGood e =
+    (eqb (e .page) 1 || eqb (e .page) 5 || eqb (e .page) 13 || eqb (e .page) 17)
+    && leb 1 (e .levels) && leb (e .levels) 5 && aligned (indexBits e) (record { 0 = e .base }) && leb (span e) 59
+
+unfoldable pub walks : TranslationEntry → ByteAddress → Bool
+walks e a = tableGood e && not (bypass e) && pagesGood e && ltb (offset a .0) (2 ^ span e)
+
+-- inside the bypass range, its end not included
+unfoldable pub inBypass : TranslationEntry → ByteAddress → Bool
+inBypass e o = leb (e .base * 2 ^ 24) (o .0) && ltb (o .0) (e .levels * 2 ^ 24)
+
+unfoldable pub unwalked : PeNumber → TranslationEntry → ByteAddress → Outcome
+unwalked p e a =
+    cond (tableGood e)
+    (cond (bypass e)
+    (cond (bypassGood e) (cond (inBypass e (offset a)) (passed p (offset a) 0) (failed OutsideWindow a 0)) (failed BadEntry a 0))
+    (cond (pagesGood e) (failed OutsideWindow a 0) (failed BadEntry a 0)))
+    (failed BadEntry a 0)

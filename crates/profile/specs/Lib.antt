@@ -1,0 +1,8 @@
+pub mod Cases
+pub mod Entry
+pub mod Freeze
+pub mod Msi
+pub mod Step
+pub mod Tables
+pub mod Walk
+pub mod Windows

@@ -1,0 +1,89 @@
+-- 01, 'MSI', and the firmware requests of an interrupt under 'Firmware'.
+--     interrupt s i       the record of interrupt i
+--     ranged e            server below 2 ^ 24, priority at most 255, state at most 3
+--     number32, number64  the number of an MSI: the low five bits of data ORed with address bits 15..4 or 19..4
+--     msiFormed d a n     a write of 4 bytes at a multiple of 4
+--     presents p b        an arriving MSI is presented: priority below 255 and P = 0. Else it is held
+--     arrived p b         2P + Q afterwards: P set where it is presented, Q set where it is held
+--     arrives i e         what an arriving MSI comes to
+--     msi f s p a i ok    an MSI of PE p with number i, of good form or not
+--     ends i e            the end of an interrupt
+--     prioritized i n e   its priority set to n, written first; from 255 to another with Q set, Q is cleared and an MSI is taken as arrived
+-- Assumes nothing.
+use mathlib.Core.Bool.{Bool, true, false, cond, not, _&&_}
+use Prim.Native.Nat.{ℕ, _+_, _*_, _/_, _%_, _^_}
+use lib.Bits.{bitOr}
+use lib.Dec.{leb, ltb, eqb}
+use Rattle.kinds.specs.Words.{at}
+use Rattle.kinds.specs.declared.answer.Answer.{Answer}
+use Rattle.kinds.specs.declared.answer.Answer.the-variants.{Msi, Held, Done}
+use Rattle.kinds.specs.declared.answer.Reason.the-variants.{MsiRefused}
+use Rattle.kinds.specs.declared.number.ByteAddress.{ByteAddress}
+use Rattle.kinds.specs.declared.number.PeNumber.{PeNumber}
+use Rattle.kinds.specs.declared.outcome.Effect.the-variants.{Keep}
+use Rattle.kinds.specs.declared.outcome.Effect.the-variants as effect
+use Rattle.kinds.specs.declared.outcome.Outcome.{Outcome}
+use Rattle.kinds.specs.declared.record.Interrupt.{Interrupt}
+use Rattle.kinds.specs.declared.request.Direction.{Direction}
+use Rattle.kinds.specs.declared.request.Direction.the-variants.{Read, Write}
+use Rattle.profile.specs.Tables.{Tables, Live, interruptWords}
+use Rattle.profile.specs.Entry.{failed}
+
+abbrev pub interrupt : Live → ℕ → Interrupt
+interrupt s i = record {
+  pe = at (s .interrupts) (i * interruptWords);
+  server = at (s .interrupts) (i * interruptWords + 1);
+  priority = at (s .interrupts) (i * interruptWords + 2);
+  bits = at (s .interrupts) (i * interruptWords + 3);
+}
+
+unfoldable pub ranged : Interrupt → Bool
+ranged e = ltb (e .server) (2 ^ 24) && leb (e .priority) 255 && leb (e .bits) 3
+
+unfoldable pub number32 : ByteAddress → ℕ → ℕ
+number32 a d = bitOr (d % 32) (a .0 / 16 % 2 ^ 12)
+
+unfoldable pub number64 : ByteAddress → ℕ → ℕ
+number64 a d = bitOr (d % 32) (a .0 / 16 % 2 ^ 16)
+
+abbrev pub isWrite : Direction → Bool
+isWrite Read = false
+isWrite Write = true
+
+unfoldable pub msiFormed : Direction → ByteAddress → (length : ℕ) → Bool
+msiFormed d a n = isWrite d && eqb n 4 && eqb (a .0 % 4) 0
+
+unfoldable pub presents : (priority bits : ℕ) → Bool
+presents p b = not (eqb p 255) && ltb b 2
+
+unfoldable pub arrived : (priority bits : ℕ) → ℕ
+arrived p b = cond (presents p b) (b + 2) (b / 2 * 2 + 1)
+
+unfoldable pub announced : (i server priority bits : ℕ) → Answer
+announced i v p b = cond (presents p b) (Msi i v p) (Held i)
+
+abbrev pub arrives : ℕ → Interrupt → Outcome
+arrives i e = record {
+  answer = announced i (e .server) (e .priority) (e .bits);
+  effect = effect.Interrupt i (e .priority) (arrived (e .priority) (e .bits));
+}
+
+unfoldable pub msi : Tables → Live → PeNumber → ByteAddress → (i : ℕ) → Bool → Outcome
+msi f s p a i ok =
+    cond (ok && ltb i (f .sizes .interrupts) && eqb (interrupt s i .pe) (p .0))
+    (cond (ranged (interrupt s i)) (arrives i (interrupt s i)) (failed MsiRefused a 0))
+    (failed MsiRefused a 0)
+
+-- P = 0; P = 1 and Q = 0; both set and priority 255; both set
+unfoldable pub ends : ℕ → Interrupt → Outcome
+ends i e =
+    cond (ltb (e .bits) 2) (record { answer = Done; effect = Keep })
+    (cond (eqb (e .bits) 2) (record { answer = Done; effect = effect.Interrupt i (e .priority) 0 })
+    (cond (eqb (e .priority) 255) (record { answer = Done; effect = effect.Interrupt i (e .priority) 1 })
+    (record { answer = Msi i (e .server) (e .priority); effect = effect.Interrupt i (e .priority) 2 })))
+
+unfoldable pub prioritized : ℕ → (priority : ℕ) → Interrupt → Outcome
+prioritized i n e =
+    cond (eqb (e .priority) 255 && not (eqb n 255) && eqb (e .bits % 2) 1)
+    (arrives i (record { pe = e .pe; server = e .server; priority = n; bits = e .bits / 2 * 2 }))
+    (record { answer = Done; effect = effect.Interrupt i n (e .bits) })

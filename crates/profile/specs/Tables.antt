@@ -1,0 +1,97 @@
+-- 01, 'Lent tables': the tables, their sizes, and reason 1.
+--     Tables              what is fixed during a sequence, memory apart: the sizes N, M and R, requesters, translation entries, peers, windows, segments
+--     Live                what is written: state and interrupts
+--     lengths f n s       the lengths of all lent tables, n being that of memory
+--     sized z l           not reason 1: no number and no length is off the table of 01
+--     entryWords ..       the words of a PE's translation entries, of one record, of a peer vector, of an interrupt, of a PE's state; of the windows
+--     mostPes ..          the limits of N, M, R and memory
+--     named r z n         the PE with number n, or nobody with refusal r: n is a PE where it is below N
+-- Assumes nothing.
+use mathlib.Core.Bool.{Bool, cond, _&&_}
+use mathlib.Core.List.{List}
+use Prim.Native.Nat.{ℕ, _*_}
+use lib.Dec.{leb, ltb, eqb}
+use lib.ListN.{length}
+use Rattle.kinds.specs.declared.answer.Reason.{Reason}
+use Rattle.kinds.specs.declared.number.PeNumber.{PeNumber}
+use Rattle.kinds.specs.declared.record.Sizes.{Sizes}
+use Rattle.kinds.specs.declared.record.Lengths.{Lengths}
+
+pub record Tables : Type 0 where
+  pub sizes : Sizes
+  pub requesters : List ℕ
+  pub entries : List ℕ
+  pub peers : List ℕ
+  pub windows : List ℕ
+  pub segments : List ℕ
+
+pub record Live : Type 0 where
+  pub state : List ℕ
+  pub interrupts : List ℕ
+
+abbrev pub entryWords : ℕ
+entryWords = 8
+
+abbrev pub recordWords : ℕ
+recordWords = 4
+
+abbrev pub peerWords : ℕ
+peerWords = 4
+
+abbrev pub interruptWords : ℕ
+interruptWords = 4
+
+abbrev pub windowWords : ℕ
+windowWords = 67
+
+abbrev pub segmentCount : ℕ
+segmentCount = 256
+
+abbrev pub stateWords : ℕ
+stateWords = 3
+
+abbrev pub mostPes : ℕ
+mostPes = 256
+
+abbrev pub mostInterrupts : ℕ
+mostInterrupts = 2048
+
+abbrev pub mostRequesters : ℕ
+mostRequesters = 65536
+
+abbrev pub mostMemory : ℕ
+mostMemory = 1048576
+
+abbrev pub lengths : Tables → (memory : ℕ) → Live → Lengths
+lengths f n s = record {
+  requesters = length (f .requesters);
+  entries = length (f .entries);
+  memory = n;
+  peers = length (f .peers);
+  interrupts = length (s .interrupts);
+  windows = length (f .windows);
+  segments = length (f .segments);
+  state = length (s .state);
+}
+
+unfoldable pub sized : Sizes → Lengths → Bool
+sized z l =
+    leb 1 (z .pes) && leb (z .pes) mostPes
+    && leb (z .interrupts) mostInterrupts
+    && leb 1 (z .requesters) && leb (z .requesters) mostRequesters
+    && eqb (l .requesters) (z .requesters)
+    && eqb (l .entries) (z .pes * entryWords)
+    && leb (l .memory) mostMemory
+    && eqb (l .peers) (z .pes * peerWords)
+    && eqb (l .interrupts) (z .interrupts * interruptWords)
+    && eqb (l .windows) windowWords
+    && eqb (l .segments) segmentCount
+    && eqb (l .state) (z .pes * stateWords)
+
+-- whom a request belongs to: a PE, or nobody with the refusal that it then gets
+pub data Owner : Type 0 where
+  Of : (pe : PeNumber) → Owner
+  Nobody : (reason : Reason) → Owner
+
+unfoldable pub named : Reason → Sizes → ℕ → Owner
+named r z n = cond (ltb n (z .pes)) (Of (record { 0 = n })) (Nobody r)
