@@ -1,6 +1,10 @@
 -- What the functions of `kinds` are proved from. Assumes nothing.
 use mathlib.Core.Path.{_≡_, sym, ap, _∙_}
 use Prim.Native.Nat.{ℕ, _+_, _-_, _*_, _/_, _%_, _^_, _≤_, _<_}
+use mathlib.Core.List.{List}
+use lib.ListN.{length, set, List·getD-eq-default}
+use lib.Seq.{set-out}
+use Rattle.kinds.specs.Words.{at}
 use lib.Bits.{bitAnd, bitOr}
 use Rattle.kinds.specs.Answer.{reasonNumber, plain, numbered}
 use Rattle.kinds.specs.Number.{pageBits, pageNumber}
@@ -33,3 +37,10 @@ module _ (size : PageSize) {k : ℕ} (e : k ≡ pageBits size) where
 
   pub joined-at : (p x : ℕ) → bitOr (p * 2 ^ k % 2 ^ 64) (bitAnd x (1 * 2 ^ k % 2 ^ 64 - 1)) ≡ (p * 2 ^ pageBits size + x % 2 ^ pageBits size) % 2 ^ 64
   joined-at p x = rw (← e) (joined p x k shift-fits)
+
+-- a word that the table does not have
+pub read-out : (l : List ℕ) (i : ℕ) → length l ≤ i → 0 ≡ at l i
+read-out l i h = sym (List·getD-eq-default l 0 h)
+
+pub stored-out : (l : List ℕ) (i v : ℕ) → length l ≤ i → l ≡ set l i v
+stored-out l i v h = sym (set-out l i v h)

@@ -8,16 +8,16 @@ use Prim.Native.Nat.{ℕ, _/_}
 use lib.ListN.{set, replicate}
 use Rattle.kinds.specs.Words.{mapAt}
 use Rattle.kinds.specs.declared.answer.Answer.{Answer}
-use Rattle.kinds.specs.declared.answer.Answer.the-variants.{Pass, Msi, Refuse, Done}
-use Rattle.kinds.specs.declared.answer.Reason.the-variants.{BadRequest, OutsideWindow, TableWord}
-use Rattle.kinds.specs.declared.request.Direction.the-variants.{Read, Write}
+use Rattle.kinds.specs.declared.answer.Answer.the-variants.{Pass, Refuse}
+use Rattle.kinds.specs.declared.answer.Reason.the-variants.{TableWord}
+use Rattle.kinds.specs.declared.request.Direction.the-variants.{Read}
 use Rattle.kinds.specs.declared.request.Request.{Request}
-use Rattle.kinds.specs.declared.request.Request.the-variants.{Dma, Load, Error}
+use Rattle.kinds.specs.declared.request.Request.the-variants.{Dma}
 use Rattle.profile.specs.Tables.{Tables, Live, sized, named}
 use Rattle.profile.specs.Freeze.{marked, frozen, released}
 use Rattle.profile.specs.Entry.{classOf, pageSize, span, aligned, tableGood, bypassGood, pagesGood, walks, inBypass, unwalked}
 use Rattle.profile.specs.Walk.{leads, turn, walkFrom, allows, arriveAt}
-use Rattle.profile.specs.Msi.{ranged, number32, number64, msiFormed, presents, arrived, announced, msi, ends, prioritized}
+use Rattle.profile.specs.Msi.{ranged, number32, number64, msiFormed, presents, arrived, announced, delivered, msi, ends, prioritized}
 use Rattle.profile.specs.Windows.{isPower, covers, segmentOf, m32Open, m64Open, m64Pe, m64, m64From, route, onesOf}
 use Rattle.profile.specs.Step.{accessFormed, dmaFormed, formed, owner, served, accessed, ask, finish, act, settled, decidedBy, actBy, answered, after}
 
@@ -84,5 +84,5 @@ cases =
     ∷ []
 
 pub cases-hold : map given cases ≡ map stated cases
-unfolding given stated bridge none plain idle words empty stopped row first cases mapAt sized named marked frozen released classOf pageSize span aligned tableGood bypassGood pagesGood walks inBypass unwalked leads turn walkFrom allows arriveAt ranged number32 number64 msiFormed presents arrived announced msi ends prioritized isPower covers segmentOf m32Open m64Open m64Pe m64 m64From route onesOf accessFormed dmaFormed formed owner served accessed ask finish act settled decidedBy actBy
+unfolding given stated bridge none plain idle words empty stopped row first cases mapAt sized named marked frozen released classOf pageSize span aligned tableGood bypassGood pagesGood walks inBypass unwalked leads turn walkFrom allows arriveAt ranged number32 number64 msiFormed presents arrived announced delivered msi ends prioritized isPower covers segmentOf m32Open m64Open m64Pe m64 m64From route onesOf accessFormed dmaFormed formed owner served accessed ask finish act settled decidedBy actBy
 cases-hold = refl

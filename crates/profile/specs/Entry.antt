@@ -12,7 +12,7 @@
 --     unwalked p e a      else: bypass, 6 or 7
 --     passed, refused, failed     an outcome: a pass; a refusal that changes nothing; a refusal that freezes
 -- Assumes nothing.
-use mathlib.Core.Bool.{Bool, true, false, cond, not, _&&_, _||_}
+use mathlib.Core.Bool.{Bool, cond, not, _&&_, _||_}
 use Prim.Native.Nat.{ℕ, _+_, _*_, _/_, _%_, _^_}
 use lib.Dec.{leb, ltb, eqb}
 use Rattle.kinds.specs.Number.{pageBits, pageNumber}

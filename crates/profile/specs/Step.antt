@@ -18,6 +18,10 @@ use Rattle.kinds.specs.Words.{at}
 use Rattle.kinds.specs.declared.answer.Answer.{Answer}
 use Rattle.kinds.specs.declared.answer.Answer.the-variants.{Pass, Ones, Drop, Done}
 use Rattle.kinds.specs.declared.answer.Reason.the-variants.{TableLength, BadRequest, UnknownRequester, DmaStopped, AddressClass, NoWindow, ErrorMessage, BadFirmware}
+use Rattle.kinds.specs.declared.lookup.Hit.{Hit}
+use Rattle.kinds.specs.declared.lookup.Hit.the-variants.{At, Miss}
+use Rattle.kinds.specs.declared.lookup.Owner.{Owner}
+use Rattle.kinds.specs.declared.lookup.Owner.the-variants.{Of, Nobody}
 use Rattle.kinds.specs.declared.number.ByteAddress.{ByteAddress}
 use Rattle.kinds.specs.declared.number.PeNumber.{PeNumber}
 use Rattle.kinds.specs.declared.outcome.Effect.{Effect}
@@ -28,12 +32,12 @@ use Rattle.kinds.specs.declared.request.AddressClass as classes
 use Rattle.kinds.specs.declared.request.Direction.{Direction}
 use Rattle.kinds.specs.declared.request.Request.{Request}
 use Rattle.kinds.specs.declared.request.Request.the-variants.{Dma, Load, Store, Error, Clear, End, Priority}
-use Rattle.profile.specs.Tables.{Tables, Live, Owner, Of, Nobody, named, lengths, sized, interruptWords}
+use Rattle.profile.specs.Tables.{Tables, Live, named, lengths, sized, interruptWords}
 use Rattle.profile.specs.Freeze.{stopWord, mmioStopped, dmaStopped, vector, froze, released}
 use Rattle.profile.specs.Entry.{refused, failed, classOf, half, entry, pageSize, pageOf, walks, unwalked}
 use Rattle.profile.specs.Walk.{walk, arrive}
-use Rattle.profile.specs.Msi.{interrupt, ranged, number32, number64, msiFormed, msi, ends, prioritized}
-use Rattle.profile.specs.Windows.{Hit, At, Miss, route, onesOf}
+use Rattle.profile.specs.Msi.{interrupt, onGood, number32, number64, msiFormed, msi, ends, prioritized}
+use Rattle.profile.specs.Windows.{route, onesOf}
 
 -- width 1, 2, 4 or 8, and the address a multiple of it
 unfoldable pub accessFormed : ByteAddress → (width : ℕ) → Bool
@@ -84,14 +88,10 @@ served class.Msi32 f s p d a n v = Ready (msi f s p a (number32 a v) (msiFormed 
 served class.Msi64 f s p d a n v = Ready (msi f s p a (number64 a v) (msiFormed d a n))
 served class.Unserved f s p d a n v = Ready (failed AddressClass a 0)
 
--- a load or store of PE p whose window is found, by its stop word; `dead` is its answer where the PE is MMIO stopped
+-- a load or store of PE p, by its window and its stop word; `dead` is its answer where the PE is MMIO stopped. One with no window has no PE
 unfoldable pub accessed : Hit → PeNumber → (stop : ℕ) → Answer → Answer
 accessed (At n c) p w dead = cond (mmioStopped w) dead (Pass c p 0)
 accessed Miss p w dead = dead
-
--- a firmware request of an interrupt: on a good one
-abbrev pub onGood : Live → ℕ → Outcome → Outcome
-onGood s i o = cond (ranged (interrupt s i)) o (refused BadFirmware)
 
 unfoldable pub ask : Tables → Live → PeNumber → Request → Asked
 ask f s p (Dma r d a n v) =
@@ -102,8 +102,8 @@ ask f s p (Store a w) =
     Ready (record { answer = accessed (route (f .windows) (f .segments) a) p (at (s .state) (stopWord p)) Drop; effect = Keep })
 ask f s p (Error r) = Ready (record { answer = Done; effect = Freeze ErrorMessage r })
 ask f s p (Clear q c) = Ready (record { answer = Done; effect = Release c })
-ask f s p (End i) = Ready (onGood s i (ends i (interrupt s i)))
-ask f s p (Priority i n) = Ready (onGood s i (prioritized i n (interrupt s i)))
+ask f s p (End i) = Ready (onGood (interrupt s i) (ends i (interrupt s i)))
+ask f s p (Priority i n) = Ready (onGood (interrupt s i) (prioritized i n (interrupt s i)))
 
 unfoldable pub finish : Tables → List ℕ → PeNumber → Asked → Outcome
 finish f m p (Ready o) = o

@@ -13,7 +13,8 @@ use Prim.Native.Nat.{ℕ, _*_}
 use lib.Dec.{leb, ltb, eqb}
 use lib.ListN.{length}
 use Rattle.kinds.specs.declared.answer.Reason.{Reason}
-use Rattle.kinds.specs.declared.number.PeNumber.{PeNumber}
+use Rattle.kinds.specs.declared.lookup.Owner.{Owner}
+use Rattle.kinds.specs.declared.lookup.Owner.the-variants.{Of, Nobody}
 use Rattle.kinds.specs.declared.record.Sizes.{Sizes}
 use Rattle.kinds.specs.declared.record.Lengths.{Lengths}
 
@@ -87,11 +88,6 @@ sized z l =
     && eqb (l .windows) windowWords
     && eqb (l .segments) segmentCount
     && eqb (l .state) (z .pes * stateWords)
-
--- whom a request belongs to: a PE, or nobody with the refusal that it then gets
-pub data Owner : Type 0 where
-  Of : (pe : PeNumber) → Owner
-  Nobody : (reason : Reason) → Owner
 
 unfoldable pub named : Reason → Sizes → ℕ → Owner
 named r z n = cond (ltb n (z .pes)) (Of (record { 0 = n })) (Nobody r)

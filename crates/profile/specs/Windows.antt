@@ -12,13 +12,11 @@ use mathlib.Core.List.{List}
 use Prim.Native.Nat.{ℕ, zero, suc, _+_, _-_, _*_, _/_, _%_, _^_}
 use lib.Dec.{leb, ltb, eqb}
 use Rattle.kinds.specs.Words.{at}
+use Rattle.kinds.specs.declared.lookup.Hit.{Hit}
+use Rattle.kinds.specs.declared.lookup.Hit.the-variants.{At, Miss}
 use Rattle.kinds.specs.declared.number.ByteAddress.{ByteAddress}
 use Rattle.kinds.specs.declared.record.Window.{Window}
 use Rattle.profile.specs.Tables.{segmentCount}
-
-pub data Hit : Type 0 where
-  At : (pe : ℕ) → (pci : ByteAddress) → Hit
-  Miss : Hit
 
 unfoldable pub isPower : (k n x : ℕ) → Bool
 isPower k zero x = eqb x (2 ^ k)
