@@ -1,6 +1,7 @@
 pub mod Answer
 pub mod Number
 pub mod NumberLaws
+pub mod Outcome
 pub mod Powers
 pub mod Tests
 pub mod Turns

@@ -10,36 +10,24 @@
 --     pagesGood e         a known page code, 1 to 5 levels, an aligned base, a span of at most 59
 --     walks e a           the entry is good and has pages, and the offset is inside them: the page table is walked
 --     unwalked p e a      else: bypass, 6 or 7
---     passed, refused, failed     an outcome: a pass; a refusal that changes nothing; a refusal that freezes
 -- Assumes nothing.
 use mathlib.Core.Bool.{Bool, cond, not, _&&_, _||_}
 use Prim.Native.Nat.{ℕ, _+_, _*_, _/_, _%_, _^_}
 use lib.Dec.{leb, ltb, eqb}
 use Rattle.kinds.specs.Number.{pageBits, pageNumber}
+use Rattle.kinds.specs.Outcome.{passed, failed}
 use Rattle.kinds.specs.Words.{at}
-use Rattle.kinds.specs.declared.answer.Answer.the-variants.{Pass, Refuse}
-use Rattle.kinds.specs.declared.answer.Reason.{Reason}
 use Rattle.kinds.specs.declared.answer.Reason.the-variants.{BadEntry, OutsideWindow}
 use Rattle.kinds.specs.declared.number.ByteAddress.{ByteAddress}
 use Rattle.kinds.specs.declared.number.PageNumber.{PageNumber}
 use Rattle.kinds.specs.declared.number.PageSize.{PageSize}
 use Rattle.kinds.specs.declared.number.PageSize.the-variants.{K4, K64, M16, M256}
 use Rattle.kinds.specs.declared.number.PeNumber.{PeNumber}
-use Rattle.kinds.specs.declared.outcome.Effect.the-variants.{Keep, Freeze}
 use Rattle.kinds.specs.declared.outcome.Outcome.{Outcome}
 use Rattle.kinds.specs.declared.record.TranslationEntry.{TranslationEntry}
 use Rattle.kinds.specs.declared.request.AddressClass.{AddressClass}
 use Rattle.kinds.specs.declared.request.AddressClass.the-variants.{Dma, Msi32, Msi64, Unserved}
 use Rattle.profile.specs.Tables.{Tables, entryWords, recordWords}
-
-abbrev pub passed : PeNumber → ByteAddress → (words : ℕ) → Outcome
-passed p a n = record { answer = Pass a p n; effect = Keep }
-
-abbrev pub refused : Reason → Outcome
-refused r = record { answer = Refuse r 0; effect = Keep }
-
-abbrev pub failed : Reason → ByteAddress → (words : ℕ) → Outcome
-failed r a n = record { answer = Refuse r n; effect = Freeze r (a .0) }
 
 unfoldable pub classOf : ByteAddress → AddressClass
 classOf a =

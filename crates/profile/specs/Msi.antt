@@ -16,9 +16,10 @@ use mathlib.Core.Bool.{Bool, true, false, cond, not, _&&_}
 use Prim.Native.Nat.{ℕ, _+_, _*_, _/_, _%_, _^_}
 use lib.Bits.{bitOr}
 use lib.Dec.{leb, ltb, eqb}
+use Rattle.kinds.specs.Outcome.{refused, failed, done}
 use Rattle.kinds.specs.Words.{at}
 use Rattle.kinds.specs.declared.answer.Answer.{Answer}
-use Rattle.kinds.specs.declared.answer.Answer.the-variants.{Msi, Held, Done}
+use Rattle.kinds.specs.declared.answer.Answer.the-variants.{Msi, Held}
 use Rattle.kinds.specs.declared.answer.Reason.the-variants.{MsiRefused, BadFirmware}
 use Rattle.kinds.specs.declared.number.ByteAddress.{ByteAddress}
 use Rattle.kinds.specs.declared.number.PeNumber.{PeNumber}
@@ -29,7 +30,6 @@ use Rattle.kinds.specs.declared.record.Interrupt.{Interrupt}
 use Rattle.kinds.specs.declared.request.Direction.{Direction}
 use Rattle.kinds.specs.declared.request.Direction.the-variants.{Read, Write}
 use Rattle.profile.specs.Tables.{Tables, Live, interruptWords}
-use Rattle.profile.specs.Entry.{refused, failed}
 
 abbrev pub interrupt : Live → ℕ → Interrupt
 interrupt s i = record {
@@ -84,13 +84,13 @@ onGood e o = cond (ranged e) o (refused BadFirmware)
 -- P = 0; P = 1 and Q = 0; both set and priority 255; both set
 unfoldable pub ends : ℕ → Interrupt → Outcome
 ends i e =
-    cond (ltb (e .bits) 2) (record { answer = Done; effect = Keep })
-    (cond (eqb (e .bits) 2) (record { answer = Done; effect = effect.Interrupt i (e .priority) 0 })
-    (cond (eqb (e .priority) 255) (record { answer = Done; effect = effect.Interrupt i (e .priority) 1 })
+    cond (ltb (e .bits) 2) (done Keep)
+    (cond (eqb (e .bits) 2) (done (effect.Interrupt i (e .priority) 0))
+    (cond (eqb (e .priority) 255) (done (effect.Interrupt i (e .priority) 1))
     (record { answer = Msi i (e .server) (e .priority); effect = effect.Interrupt i (e .priority) 2 })))
 
 unfoldable pub prioritized : ℕ → (priority : ℕ) → Interrupt → Outcome
 prioritized i n e =
     cond (eqb (e .priority) 255 && not (eqb n 255) && eqb (e .bits % 2) 1)
     (arrives i (record { pe = e .pe; server = e .server; priority = n; bits = e .bits / 2 * 2 }))
-    (record { answer = Done; effect = effect.Interrupt i n (e .bits) })
+    (done (effect.Interrupt i n (e .bits)))

@@ -14,9 +14,10 @@ use Prim.Native.Nat.{ℕ, _+_, _*_, _%_}
 use lib.Dec.{leb, ltb, eqb}
 use lib.ListN.{length, set}
 use Rattle.kinds.specs.Answer.{reasonNumber}
+use Rattle.kinds.specs.Outcome.{refused, failed, done}
 use Rattle.kinds.specs.Words.{at}
 use Rattle.kinds.specs.declared.answer.Answer.{Answer}
-use Rattle.kinds.specs.declared.answer.Answer.the-variants.{Pass, Ones, Drop, Done}
+use Rattle.kinds.specs.declared.answer.Answer.the-variants.{Pass, Ones, Drop}
 use Rattle.kinds.specs.declared.answer.Reason.the-variants.{TableLength, BadRequest, UnknownRequester, DmaStopped, AddressClass, NoWindow, ErrorMessage, BadFirmware}
 use Rattle.kinds.specs.declared.lookup.Hit.{Hit}
 use Rattle.kinds.specs.declared.lookup.Hit.the-variants.{At, Miss}
@@ -34,7 +35,7 @@ use Rattle.kinds.specs.declared.request.Request.{Request}
 use Rattle.kinds.specs.declared.request.Request.the-variants.{Dma, Load, Store, Error, Clear, End, Priority}
 use Rattle.profile.specs.Tables.{Tables, Live, named, lengths, sized, interruptWords}
 use Rattle.profile.specs.Freeze.{stopWord, mmioStopped, dmaStopped, vector, froze, released}
-use Rattle.profile.specs.Entry.{refused, failed, classOf, half, entry, pageSize, pageOf, walks, unwalked}
+use Rattle.profile.specs.Entry.{classOf, half, entry, pageSize, pageOf, walks, unwalked}
 use Rattle.profile.specs.Walk.{walk, arrive}
 use Rattle.profile.specs.Msi.{interrupt, onGood, number32, number64, msiFormed, msi, ends, prioritized}
 use Rattle.profile.specs.Windows.{route, onesOf}
@@ -100,8 +101,8 @@ ask f s p (Load a w) =
     Ready (record { answer = accessed (route (f .windows) (f .segments) a) p (at (s .state) (stopWord p)) (Ones (onesOf w)); effect = Keep })
 ask f s p (Store a w) =
     Ready (record { answer = accessed (route (f .windows) (f .segments) a) p (at (s .state) (stopWord p)) Drop; effect = Keep })
-ask f s p (Error r) = Ready (record { answer = Done; effect = Freeze ErrorMessage r })
-ask f s p (Clear q c) = Ready (record { answer = Done; effect = Release c })
+ask f s p (Error r) = Ready (done (Freeze ErrorMessage r))
+ask f s p (Clear q c) = Ready (done (Release c))
 ask f s p (End i) = Ready (onGood (interrupt s i) (ends i (interrupt s i)))
 ask f s p (Priority i n) = Ready (onGood (interrupt s i) (prioritized i n (interrupt s i)))
 

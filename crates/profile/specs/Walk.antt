@@ -18,6 +18,7 @@ use Prim.Native.Nat.{ℕ, zero, suc, _+_, _*_, _/_, _%_, _^_}
 use lib.Dec.{ltb, eqb}
 use lib.ListN.{length}
 use Rattle.kinds.specs.Number.{pageNumber, byteAddress}
+use Rattle.kinds.specs.Outcome.{passed, failed}
 use Rattle.kinds.specs.Words.{at}
 use Rattle.kinds.specs.declared.answer.Reason.the-variants.{TableWord, OutsideMemory}
 use Rattle.kinds.specs.declared.lookup.Found.{Found}
@@ -31,7 +32,7 @@ use Rattle.kinds.specs.declared.record.TranslationEntry.{TranslationEntry}
 use Rattle.kinds.specs.declared.request.Direction.{Direction}
 use Rattle.kinds.specs.declared.request.Direction.the-variants.{Read, Write}
 use Rattle.profile.specs.Tables.{Tables}
-use Rattle.profile.specs.Entry.{passed, failed, half, offset, entry, pageSize, pageOf, indexBits, aligned, walks, unwalked}
+use Rattle.profile.specs.Entry.{half, offset, entry, pageSize, pageOf, indexBits, aligned, walks, unwalked}
 
 pub record Walked : Type 0 where
   pub found : Found
