@@ -5,4 +5,5 @@ pub mod Msi
 pub mod Step
 pub mod Tables
 pub mod Walk
+pub mod WalkLaws
 pub mod Windows
