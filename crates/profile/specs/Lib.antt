@@ -1,7 +1,11 @@
+pub mod ActLaws
+pub mod Agree
+pub mod AgreeLaws
 pub mod Cases
 pub mod Entry
 pub mod Freeze
 pub mod Msi
+pub mod RequestLaws
 pub mod Step
 pub mod Tables
 pub mod Walk

@@ -1,0 +1,216 @@
+-- What an effect does to what a group sees. None of these laws asks which request the effect comes from.
+--     act-unseen          an effect at a PE outside the group, none of whose peers is inside, is not seen
+--     act-agrees          the same effect at a member, on two bridges that agree, keeps that they agree
+--     act-keeps           no effect changes the PE word of an interrupt
+-- A new effect adds a clause to each.
+-- Assumes nothing.
+use mathlib.Core.Path.{_≡_, refl, sym, _∙_}
+use mathlib.Core.Bool.{Bool, true, false, _&&_}
+use mathlib.Core.List.{List}
+use Prim.Native.Nat.{ℕ, _+_, _*_, _/_, _%_, _<_, _≤_}
+use native.Mathlib.Omega.{arith}
+use lib.Dec.{ltb, eqb}
+use lib.ListN.{length, set, length-set}
+use borrow.Author.Tests.{ltb-true, ltb-false, eqb-true, eq-eqb, ne-eqb}
+use Rattle.kinds.specs.Answer.{reasonNumber}
+use Rattle.kinds.specs.Tests.{by-cases, clash, and-left}
+use Rattle.kinds.specs.Words.{at, bitOf}
+use Rattle.kinds.specs.WordsLaws.{at-out, at-set, at-mapAt, length-mapAt}
+use Rattle.kinds.specs.declared.answer.Reason.the-variants.{FrozenAsPeer}
+use Rattle.kinds.specs.declared.number.PeNumber.{PeNumber}
+use Rattle.kinds.specs.declared.outcome.Effect.{Effect}
+use Rattle.kinds.specs.declared.outcome.Effect.the-variants.{Keep, Freeze, Release, Interrupt}
+use Rattle.kinds.specs.declared.request.Part.{Part}
+use Rattle.kinds.specs.declared.request.Part.the-variants.{Mmio, Dma, Record}
+use Rattle.profile.specs.Tables.{Tables, Live, interruptWords, stateWords}
+use Rattle.profile.specs.Freeze.{stopWord, reasonWord, valueWord, vector, marked, frozen, froze, released}
+use Rattle.profile.specs.Msi.{interrupt}
+use Rattle.profile.specs.Step.{act}
+use Rattle.profile.specs.Agree.{peOf, seenWord, interruptPe, Same}
+use Rattle.profile.specs.AgreeLaws.{same-refl, same-sym, same-trans, stop-agrees, reason-agrees}
+
+-- the tables after a store into one of them
+abbrev stateStored : (place value : ℕ) → Live → Live
+stateStored j v s = record { state = set (s .state) j v; interrupts = s .interrupts }
+
+abbrev interruptStored : (i word value : ℕ) → Live → Live
+interruptStored i j v s = record { state = s .state; interrupts = set (s .interrupts) (i * interruptWords + j) v }
+
+-- ---- one store
+
+-- into another word than the PE word
+pe-kept : (i j v k : ℕ) → 0 < j → j < interruptWords → (s : Live) → interrupt (interruptStored i j v s) k .pe ≡ interrupt s k .pe
+pe-kept i j v k lo hi s = rw (at-set, ne-eqb (k * interruptWords) (i * interruptWords + j) (omega arith))
+
+module _ {G : PeNumber → Bool} {n : ℕ} where
+  state-unseen : (j v : ℕ) → G (peOf j) ≡ false → (s : Live) → Same G n s (stateStored j v s)
+  state-unseen j v out s = record {
+    state-length = sym (length-set (s .state) j v);
+    interrupts-length = refl;
+    state-word = λ i g. rw (at-set, ne-eqb i j (λ e. clash g (rw e out)));
+    interrupt-pe = λ i h. refl;
+    interrupt-word = λ i h g k b. refl;
+  }
+
+  -- into an interrupt that is none of the n, or not the group's
+  interrupt-unseen : (i j v : ℕ) → 0 < j → j < interruptWords → (s : Live) → (i < n → G (interruptPe s i) ≡ false)
+      → Same G n s (interruptStored i j v s)
+  interrupt-unseen i j v lo hi s out = record {
+    state-length = refl;
+    interrupts-length = sym (length-set (s .interrupts) (i * interruptWords + j) v);
+    state-word = λ k g. refl;
+    interrupt-pe = λ k h. sym (pe-kept i j v k lo hi s);
+    interrupt-word = λ k h g l b.
+        rw (at-set, ne-eqb (k * interruptWords + l) (i * interruptWords + j) (λ e. clash g (let z : k ≡ i = omega arith in rw z (out (rw z at h)))));
+  }
+
+  state-agrees : {s t : Live} → Same G n s t → (j v w : ℕ) → seenWord j v ≡ seenWord j w → Same G n (stateStored j v s) (stateStored j w t)
+  state-agrees {s} {t} r j v w e = record {
+    state-length = simp length-set (r .state-length);
+    interrupts-length = r .interrupts-length;
+    state-word = λ i g. simp (at-set, r .state-length)
+        (by-cases (eqb i j && ltb i (length (t .state)))
+        (λ o. rw (o, eqb-true i j (and-left (eqb i j) (ltb i (length (t .state))) o)) e)
+        (λ o. rw o (r .state-word i g)));
+    interrupt-pe = r .interrupt-pe;
+    interrupt-word = r .interrupt-word;
+  }
+
+  interrupt-agrees : {s t : Live} → Same G n s t → (i j v : ℕ) → 0 < j → j < interruptWords → Same G n (interruptStored i j v s) (interruptStored i j v t)
+  interrupt-agrees {s} {t} r i j v lo hi = record {
+    state-length = r .state-length;
+    interrupts-length = simp length-set (r .interrupts-length);
+    state-word = r .state-word;
+    interrupt-pe = λ k h. rw (pe-kept i j v k lo hi s, pe-kept i j v k lo hi t) (r .interrupt-pe k h);
+    interrupt-word = λ k h g l b.
+        let u : G (interruptPe s k) ≡ true = rw (pe-kept i j v k lo hi s) at g in
+        simp (at-set, r .interrupts-length)
+        (by-cases (eqb (k * interruptWords + l) (i * interruptWords + j) && ltb (k * interruptWords + l) (length (t .interrupts)))
+        (λ o. rw o) (λ o. rw o (r .interrupt-word k h u l b)));
+  }
+
+  -- the two words that an effect of an interrupt writes
+  written-unseen : (i v b : ℕ) (s : Live) → (i < n → G (interruptPe s i) ≡ false) → Same G n s (interruptStored i 3 b (interruptStored i 2 v s))
+  written-unseen i v b s out =
+      same-trans (interrupt-unseen i 2 v (omega arith) (omega arith) s out)
+      (interrupt-unseen i 3 b (omega arith) (omega arith) (interruptStored i 2 v s) (λ h. rw (pe-kept i 2 v i (omega arith) (omega arith) s) (out h)))
+
+  written-agrees : {s t : Live} → Same G n s t → (i v b : ℕ)
+      → Same G n (interruptStored i 3 b (interruptStored i 2 v s)) (interruptStored i 3 b (interruptStored i 2 v t))
+  written-agrees r i v b = interrupt-agrees (interrupt-agrees r i 2 v (omega arith) (omega arith)) i 3 b (omega arith) (omega arith)
+
+-- ---- an effect at a PE outside
+
+module _ {G : PeNumber → Bool} (f : Tables) (p : PeNumber) (out : G p ≡ false)
+    (away : (k : PeNumber) → G k ≡ true → bitOf (vector f p) (k .0) ≡ false) where
+  own-word : (j : ℕ) → j / stateWords ≡ p .0 → G (peOf j) ≡ false
+  own-word j e = rw e out
+
+  frozen-unseen : (r v : ℕ) (l : List ℕ) (i x : ℕ) → G (peOf i) ≡ true → frozen (vector f p) p r v l i x ≡ x
+  unfolding frozen
+  frozen-unseen r v l i x g = rw (ne-eqb (i / stateWords) (p .0) (λ e. clash g (own-word i e)), away (peOf i) g)
+
+  module _ {n : ℕ} (s : Live) where
+    froze-unseen : (r v : ℕ) → Same G n s (record { state = froze (vector f p) p r v (s .state); interrupts = s .interrupts })
+    froze-unseen r v = record {
+      state-length = sym (length-mapAt (frozen (vector f p) p r v (s .state)) 0 (s .state));
+      interrupts-length = refl;
+      state-word = λ i g. rw at-mapAt
+          (by-cases (ltb i (length (s .state)))
+          (λ o. rw (o, frozen-unseen r v (s .state) i (at (s .state) i) g))
+          (λ o. rw (o, at-out (s .state) i o)));
+      interrupt-pe = λ i h. refl;
+      interrupt-word = λ i h g j b. refl;
+    }
+
+    released-unseen : (c : Part) → Same G n s (record { state = released c p (s .state); interrupts = s .interrupts })
+    unfolding released
+    released-unseen Mmio = state-unseen (stopWord p) (at (s .state) (stopWord p) / 2 * 2) (own-word (stopWord p) (omega arith)) s
+    released-unseen Dma =
+        state-unseen (stopWord p) (at (s .state) (stopWord p) / 4 * 4 + at (s .state) (stopWord p) % 2) (own-word (stopWord p) (omega arith)) s
+    released-unseen Record =
+        same-trans (state-unseen (reasonWord p) 0 (own-word (reasonWord p) (omega arith)) s)
+        (state-unseen (valueWord p) 0 (own-word (valueWord p) (omega arith)) (stateStored (reasonWord p) 0 s))
+
+    pub act-unseen : (e : Effect) → Same G n s (act f p e s)
+    unfolding act
+    act-unseen Keep = same-refl s
+    act-unseen (Freeze r v) = froze-unseen (reasonNumber r) v
+    act-unseen (Release c) = released-unseen c
+    act-unseen (Interrupt i k b) =
+        by-cases (eqb (interrupt s i .pe) (p .0))
+        (λ o. rw o (written-unseen i k b s (λ h. rw (eqb-true (interrupt s i .pe) (p .0) o) out)))
+        (λ o. rw o (same-refl s))
+
+-- ---- the same effect at a member, on both sides
+
+marked-agrees : (r v o i x y : ℕ) → seenWord i x ≡ seenWord i y → seenWord i (marked r v o i x) ≡ seenWord i (marked r v o i y)
+unfolding marked
+marked-agrees r v o i x y e = by-cases (eqb (i % stateWords) 0) (λ z. rw z (omega arith)) (λ z. let d : x ≡ y = rw z at e in rw d)
+
+frozen-agrees : (w : List ℕ) (p : PeNumber) (r v : ℕ) (l m : List ℕ) (i x y : ℕ) → at l (i / stateWords * stateWords + 1) ≡ at m (i / stateWords * stateWords + 1)
+    → seenWord i x ≡ seenWord i y → seenWord i (frozen w p r v l i x) ≡ seenWord i (frozen w p r v m i y)
+unfolding frozen
+frozen-agrees w p r v l m i x y o e =
+    rw o
+    (by-cases (eqb (i / stateWords) (p .0))
+    (λ z. rw z (marked-agrees r v (at m (i / stateWords * stateWords + 1)) i x y e))
+    (λ z. rw z (by-cases (bitOf w (i / stateWords))
+    (λ b. rw b (marked-agrees (reasonNumber FrozenAsPeer) (p .0) (at m (i / stateWords * stateWords + 1)) i x y e))
+    (λ b. rw b e))))
+
+module _ {G : PeNumber → Bool} {n : ℕ} {s t : Live} (r : Same G n s t) where
+  froze-agrees : (w : List ℕ) (p : PeNumber) (k v : ℕ)
+      → Same G n (record { state = froze w p k v (s .state); interrupts = s .interrupts }) (record { state = froze w p k v (t .state); interrupts = t .interrupts })
+  froze-agrees w p k v = record {
+    state-length = simp length-mapAt (r .state-length);
+    interrupts-length = r .interrupts-length;
+    state-word = λ i g. simp (at-mapAt, r .state-length)
+        (by-cases (ltb i (length (t .state)))
+        (λ o. rw o (frozen-agrees w p k v (s .state) (t .state) i (at (s .state) i) (at (t .state) i) (reason-agrees r i g) (r .state-word i g)))
+        (λ o. rw o));
+    interrupt-pe = r .interrupt-pe;
+    interrupt-word = r .interrupt-word;
+  }
+
+  released-agrees : (c : Part) (p : PeNumber) → G p ≡ true
+      → Same G n (record { state = released c p (s .state); interrupts = s .interrupts }) (record { state = released c p (t .state); interrupts = t .interrupts })
+  unfolding released
+  released-agrees Mmio p u =
+      state-agrees r (stopWord p) (at (s .state) (stopWord p) / 2 * 2) (at (t .state) (stopWord p) / 2 * 2)
+      (rw (eq-eqb (stopWord p % stateWords) 0 (omega arith)) (omega (arith, stop-agrees r p u)))
+  released-agrees Dma p u =
+      state-agrees r (stopWord p) (at (s .state) (stopWord p) / 4 * 4 + at (s .state) (stopWord p) % 2) (at (t .state) (stopWord p) / 4 * 4 + at (t .state) (stopWord p) % 2)
+      (rw (eq-eqb (stopWord p % stateWords) 0 (omega arith)) (omega (arith, stop-agrees r p u)))
+  released-agrees Record p u = state-agrees (state-agrees r (reasonWord p) 0 0 refl) (valueWord p) 0 0 refl
+
+  -- an interrupt's PE is not public from n on, and what is written there is not seen
+  interrupt-written : (f : Tables) (p : PeNumber) (i v b : ℕ) → Same G n (act f p (Interrupt i v b) s) (act f p (Interrupt i v b) t)
+  unfolding act
+  interrupt-written f p i v b =
+      by-cases (ltb i n)
+      (λ h. rw (r .interrupt-pe i (ltb-true i n h))
+      (by-cases (eqb (interrupt t i .pe) (p .0)) (λ o. rw o (written-agrees r i v b)) (λ o. rw o r)))
+      (λ h. same-trans (same-sym (beyond s (ltb-false i n h))) (same-trans r (beyond t (ltb-false i n h))))
+    where
+      beyond : (u : Live) → n ≤ i → Same G n u (act f p (Interrupt i v b) u)
+      beyond u h = by-cases (eqb (interrupt u i .pe) (p .0)) (λ o. rw o (written-unseen i v b u (λ l. absurd (omega arith)))) (λ o. rw o (same-refl u))
+
+  pub act-agrees : (f g : Tables) (p : PeNumber) → G p ≡ true → vector f p ≡ vector g p → (e : Effect) → Same G n (act f p e s) (act g p e t)
+  unfolding act
+  act-agrees f g p u w Keep = r
+  act-agrees f g p u w (Freeze k v) = rw w (froze-agrees (vector g p) p (reasonNumber k) v)
+  act-agrees f g p u w (Release c) = released-agrees c p u
+  act-agrees f g p u w (Interrupt i v b) = interrupt-written g p i v b
+
+-- ---- what no effect changes
+
+pub act-keeps : (f : Tables) (p : PeNumber) (e : Effect) (s : Live) (i : ℕ) → interrupt (act f p e s) i .pe ≡ interrupt s i .pe
+unfolding act
+act-keeps f p Keep s i = refl
+act-keeps f p (Freeze r v) s i = refl
+act-keeps f p (Release c) s i = refl
+act-keeps f p (Interrupt j v b) s i =
+    by-cases (eqb (interrupt s j .pe) (p .0))
+    (λ o. rw o (pe-kept j 3 b i (omega arith) (omega arith) (interruptStored j 2 v s) ∙ pe-kept j 2 v i (omega arith) (omega arith) s))
+    (λ o. rw o)
