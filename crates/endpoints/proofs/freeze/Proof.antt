@@ -1,0 +1,61 @@
+use Rattle.endpoints.proofs.Laws as laws
+use borrow.Author.Needs.{needs}
+use mathlib.Core.Path.{_≡_, refl}
+use Prim.Native.Nat.{_+_, _-_, _*_, _≤_}
+use native.Mathlib.Omega.{arith}
+use lib.ListN.{length}
+use Rattle.kinds.specs.Turns.{turns}
+use Rattle.profile.specs.Tables.{stateWords}
+use Rattle.endpoints.specs.Turn.{turned}
+use Rattle.endpoints.proofs.freeze.Statement.{statement}
+use Rattle.endpoints.proofs.freeze.Tie as tie
+
+abbrev Inv-loop : tie.InvT-loop
+Inv-loop state₀ peers pe value number k₀ state k =
+    (k * stateWords ≤ length state + 2) × (length state ≡ length state₀) × (state ≡ turns (turned peers pe number value) state₀ k)
+
+abbrev μ-loop : tie.MeasureT-loop
+μ-loop state₀ peers pe value number k₀ state k = length state + stateWords - k * stateWords
+
+reason-number-requires : tie.Need-reason-number-requires Inv-loop μ-loop
+reason-number-requires c κs = search needs
+
+loop-holds : tie.Need-loop-holds Inv-loop μ-loop
+loop-holds c = (omega arith, refl, unfold turns in refl)
+
+mul-loop : tie.Need-mul-loop Inv-loop μ-loop
+mul-loop c = search needs
+
+turn-requires : tie.Need-turn-requires Inv-loop μ-loop
+turn-requires c κs = search needs
+
+add-k : tie.Need-add-k Inv-loop μ-loop
+add-k c = search needs
+
+loop-less : tie.Need-loop-less Inv-loop μ-loop
+loop-less c = search needs
+
+loop-again : tie.Need-loop-again Inv-loop μ-loop
+loop-again c = search (needs, laws.turn-length, laws.turn-next)
+
+same-length : tie.Need-same-length Inv-loop μ-loop
+same-length c = search needs
+
+returns : tie.Need-returns Inv-loop μ-loop
+returns c = search laws.turn-last
+
+pub freeze-spec : {M : Type 1} → statement M
+freeze-spec =
+    tie.close
+    (tie.spec
+    Inv-loop
+    μ-loop
+    reason-number-requires
+    loop-holds
+    mul-loop
+    turn-requires
+    add-k
+    loop-less
+    loop-again
+    same-length
+    returns)

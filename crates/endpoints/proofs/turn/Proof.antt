@@ -1,0 +1,49 @@
+use Rattle.endpoints.proofs.Laws as laws
+use borrow.Author.Needs.{needs}
+use Rattle.endpoints.proofs.turn.Statement.{statement}
+use Rattle.endpoints.proofs.turn.Tie as tie
+
+cast-failing : tie.Need-cast-failing
+cast-failing c = search needs
+
+stop-requires : tie.Need-stop-requires
+stop-requires c κs = search needs
+
+same-length : tie.Need-same-length
+same-length c = search needs
+
+returns : tie.Need-returns
+returns c = search laws.turned-failing
+
+is-peer-requires : tie.Need-is-peer-requires
+is-peer-requires c κs = search needs
+
+reason-number-requires : tie.Need-reason-number-requires
+reason-number-requires c κs = search needs
+
+stop-requires-2 : tie.Need-stop-requires-2
+stop-requires-2 c κs = search needs
+
+same-length-2 : tie.Need-same-length-2
+same-length-2 c = search needs
+
+returns-2 : tie.Need-returns-2
+returns-2 c = search laws.turned-peer
+
+returns-3 : tie.Need-returns-3
+returns-3 c = search laws.turned-other
+
+pub turn-spec : {M : Type 1} → statement M
+turn-spec =
+    tie.close
+    (tie.spec
+    cast-failing
+    stop-requires
+    same-length
+    returns
+    is-peer-requires
+    reason-number-requires
+    stop-requires-2
+    same-length-2
+    returns-2
+    returns-3)
