@@ -1,0 +1,145 @@
+-- The rows of the tables of cases: a request on a small bridge, its answer, and what it leaves.
+--     Case                the tables, memory and what is written, the request, its answer, and all words that may change, after it
+--     given, stated       what the definition gives of a row, and what the row says
+--     bridge e k v w g    4 PEs, 8 interrupts and 8 requesters, of which 1, 5 and 6 are PEs 1, 2 and 3 and the others nobody's; PE 2's two records
+--                         are e and k; v, w and g are peers, windows and segments
+--     entered, peered, windowed   the bridge with these records, peers, or windows and segments, and nothing else
+--     plain               the bridge with 01's record: a table at 0x2000, one level, table code 1, page code 1
+--     short               a bridge that reason 1 refuses: it lacks a word of the windows
+--     wide n v w g        n PEs and no interrupt; requester 0 is PE 0, requester 1 the last PE
+--     live l e            the state l, and interrupt 7 with the words e
+--     idle                nobody stopped; interrupt 7 is PE 2's, with server 5, priority 6, P = Q = 0
+--     states l            the state l, with the interrupts of `idle`; endpoint w r v: PE 2's words are w, r and v, the others' 0
+--     stopped             every PE stopped, with empty records
+--     quiet n             the words of n PEs, all 0, and no interrupt
+--     empty, words a v m  a memory of 2,600 words, all 0; memory m with word v at address a
+--     read .. pass        requests and the answer pass, in bare numbers
+--     row                 a row; keeps: nothing changes; refuses: a refusal that changes nothing, with no word read; freezes: on `idle`, a refusal
+--                         that freezes PE 2 alone, with its number and value in the error record
+-- Assumes nothing.
+use mathlib.Core.List.{List, [], _∷_, _++_}
+use Prim.Native.Nat.{ℕ, _-_, _*_, _/_}
+use lib.ListN.{set, replicate}
+use Rattle.kinds.specs.Words.{mapAt}
+use Rattle.kinds.specs.declared.answer.Answer.{Answer}
+use Rattle.kinds.specs.declared.answer.Answer.the-variants.{Pass, Refuse}
+use Rattle.kinds.specs.declared.answer.Reason.{Reason}
+use Rattle.kinds.specs.declared.request.Direction.the-variants.{Read, Write}
+use Rattle.kinds.specs.declared.request.Request.{Request}
+use Rattle.kinds.specs.declared.request.Request.the-variants.{Dma, Load, Store}
+use Rattle.profile.specs.Tables.{Tables, Live, sized, named}
+use Rattle.profile.specs.Freeze.{marked, frozen, released}
+use Rattle.profile.specs.Entry.{classOf, pageSize, span, aligned, tableGood, bypassGood, pagesGood, walks, inBypass, unwalked}
+use Rattle.profile.specs.Walk.{leads, turn, walkFrom, allows, arriveAt}
+use Rattle.profile.specs.Msi.{ranged, number32, number64, msiFormed, presents, arrived, announced, delivered, msi, ends, prioritized}
+use Rattle.profile.specs.Windows.{isPower, covers, segmentOf, m32Open, m64Open, m64Pe, m64, m64From, route, onesOf}
+use Rattle.profile.specs.Step.{accessFormed, dmaFormed, formed, owner, served, accessed, ask, finish, act, settled, decidedBy, actBy, answered, after}
+
+pub record Case : Type 0 where
+  pub tables : Tables
+  pub memory : List ℕ
+  pub live : Live
+  pub request : Request
+  pub answer : Answer
+  pub left : Live
+
+pub record Shown : Type 0 where
+  pub answer : Answer
+  pub left : Live
+
+-- to compute it is to compute the whole definition
+unfoldable pub given : Case → Shown
+unfolding mapAt sized named marked frozen released classOf pageSize span aligned tableGood bypassGood pagesGood walks inBypass unwalked leads turn walkFrom allows arriveAt ranged number32 number64 msiFormed presents arrived announced delivered msi ends prioritized isPower covers segmentOf m32Open m64Open m64Pe m64 m64From route onesOf accessFormed dmaFormed formed owner served accessed ask finish act settled decidedBy actBy
+given c = record { answer = answered (c .tables) (c .memory) (c .live) (c .request); left = after (c .tables) (c .memory) (c .live) (c .request) }
+
+unfoldable pub stated : Case → Shown
+stated c = record { answer = c .answer; left = c .left }
+
+abbrev pub bridge : (e k peers windows segments : List ℕ) → Tables
+bridge e k v w g = record {
+  sizes = record { pes = 4; interrupts = 8; requesters = 8 };
+  requesters = 9 ∷ 1 ∷ 9 ∷ 9 ∷ 9 ∷ 2 ∷ 3 ∷ 4 ∷ [];
+  entries = replicate 16 0 ++ (e ++ (k ++ replicate 8 0));
+  peers = v;
+  windows = w;
+  segments = g;
+}
+
+abbrev pub none : List ℕ
+none = replicate 4 0
+
+abbrev pub entered : (e k : List ℕ) → Tables
+entered e k = bridge e k (replicate 16 0) (replicate 67 0) (replicate 256 9)
+
+abbrev pub peered : (v : List ℕ) → Tables
+peered v = bridge none none v (replicate 67 0) (replicate 256 9)
+
+abbrev pub windowed : (w g : List ℕ) → Tables
+windowed w g = bridge none none (replicate 16 0) w g
+
+abbrev pub plain : Tables
+plain = entered (0x2000 ∷ 1 ∷ 1 ∷ 1 ∷ []) none
+
+abbrev pub short : Tables
+short = windowed (replicate 66 0) (replicate 256 9)
+
+abbrev pub wide : (pes : ℕ) → (peers windows segments : List ℕ) → Tables
+wide n v w g = record {
+  sizes = record { pes = n; interrupts = 0; requesters = 2 };
+  requesters = 0 ∷ (n - 1) ∷ [];
+  entries = replicate (n * 8) 0;
+  peers = v;
+  windows = w;
+  segments = g;
+}
+
+abbrev pub live : (state interrupt : List ℕ) → Live
+live l e = record { state = l; interrupts = replicate 28 0 ++ e }
+
+abbrev pub idle : Live
+idle = live (replicate 12 0) (2 ∷ 5 ∷ 6 ∷ 0 ∷ [])
+
+abbrev pub states : List ℕ → Live
+states l = live l (2 ∷ 5 ∷ 6 ∷ 0 ∷ [])
+
+abbrev pub endpoint : (stop reason value : ℕ) → Live
+endpoint w r v = states (0 ∷ 0 ∷ 0 ∷ 0 ∷ 0 ∷ 0 ∷ w ∷ r ∷ v ∷ 0 ∷ 0 ∷ 0 ∷ [])
+
+abbrev pub stopped : Live
+stopped = states (3 ∷ 0 ∷ 0 ∷ 3 ∷ 0 ∷ 0 ∷ 3 ∷ 0 ∷ 0 ∷ 3 ∷ 0 ∷ 0 ∷ [])
+
+abbrev pub quiet : (pes : ℕ) → Live
+quiet n = record { state = replicate (n * 3) 0; interrupts = [] }
+
+abbrev pub empty : List ℕ
+empty = replicate 2600 0
+
+abbrev pub words : (at value : ℕ) → List ℕ → List ℕ
+words a v m = set m (a / 8) v
+
+abbrev pub read : (requester address length : ℕ) → Request
+read r a n = Dma r Read (record { 0 = a }) n 0
+
+abbrev pub write : (requester address length word : ℕ) → Request
+write r a n v = Dma r Write (record { 0 = a }) n v
+
+abbrev pub load : (address width : ℕ) → Request
+load a w = Load (record { 0 = a }) w
+
+abbrev pub store : (address width : ℕ) → Request
+store a w = Store (record { 0 = a }) w
+
+abbrev pub pass : (address pe words : ℕ) → Answer
+pass a p n = Pass (record { 0 = a }) (record { 0 = p }) n
+
+abbrev pub row : Tables → List ℕ → Live → Request → Answer → Live → Case
+row f m s q a t = record { tables = f; memory = m; live = s; request = q; answer = a; left = t }
+
+abbrev pub keeps : Tables → List ℕ → Live → Request → Answer → Case
+keeps f m s q a = row f m s q a s
+
+abbrev pub refuses : Tables → Live → Request → Reason → Case
+refuses f s q r = keeps f empty s q (Refuse r 0)
+
+abbrev pub freezes : Tables → List ℕ → Request → Reason → (words number value : ℕ) → Case
+freezes f m q r n k v = row f m idle q (Refuse r n) (endpoint 3 k v)
