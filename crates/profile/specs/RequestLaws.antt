@@ -105,7 +105,7 @@ module _ (f : Tables) where
 -- ---- two bridges
 
 module _ {G : PeNumber → Bool} {f g : Tables} (w : Alike G f g) where
-  vector-agrees : (p : PeNumber) → vector f p ≡ vector g p
+  pub vector-agrees : (p : PeNumber) → vector f p ≡ vector g p
   vector-agrees p = rw (w .peers)
 
   route-agrees : (a : ByteAddress) → route (f .windows) (f .segments) a ≡ route (g .windows) (g .segments) a

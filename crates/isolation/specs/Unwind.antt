@@ -1,0 +1,212 @@
+-- The unwinding theorem: from laws of one request to two machines and two lists of requests. It knows no bridge.
+--     Machine             what a request leaves, what it is answered, and whether it is owned, asked of the state that it meets
+--     end next s l        the state after a list
+--     mine m s l          the owned requests of a list, in order; seen m s l: their answers; met m s l: the requests with the states that they meet
+--     replies m s l       the answers to all requests of a list
+--     Align               two lists side by side: a request that is not owned stands alone, owned ones stand in pairs that match. `Match` looks at
+--                         the two states and the two requests, and may be weaker than equality
+--     Laws                what one request has to keep: on the left alone, on the right alone, on both
+--     aligned             from `Laws` to two lists that stand side by side
+--     Pairs, paired       lists whose owned requests match in order do stand side by side
+--     unwound             THE THEOREM, for any `Match`; unwound-same: where owned requests match by being equal
+--     Runs, run-same      a machine that answers as another one does, seen through a function, as long as an invariant holds: every list is answered
+--                         the same and leaves the same
+--     lifted              laws of two machines are laws of two that run as they do
+--     chosen own l        the requests of a list that a test picks
+--     mine-chosen         where no request changes who owns what, the owned requests are those that the start owns; seen-chosen: in a list of
+--                         owned requests alone, every answer is seen
+-- Assumes nothing.
+use mathlib.Core.Path.{_≡_, refl, sym, _∙_, fun-ext}
+use mathlib.Core.Bool.{Bool, true, false, cond}
+use mathlib.Core.List.{List, [], _∷_}
+use Prim.Native.Nat.{ℕ}
+use native.Mathlib.Omega.{arith}
+use Rattle.kinds.specs.Tests.{by-cases}
+
+pub record Machine (S Q A : Type 0) : Type 0 where
+  pub next : S → Q → S
+  pub answer : S → Q → A
+  pub own : S → Q → Bool
+
+abbrev pub end : {S Q : Type 0} → (S → Q → S) → S → List Q → S
+end next s [] = s
+end next s (q ∷ l) = end next (next s q) l
+
+-- an owned request, and the state that it meets
+pub record Met (S Q : Type 0) : Type 0 where
+  pub state : S
+  pub request : Q
+
+module _ {S Q A : Type 0} where
+  abbrev pub mine : Machine S Q A → S → List Q → List Q
+  mine m s [] = []
+  mine m s (q ∷ l) = cond (m .own s q) (q ∷ mine m (m .next s q) l) (mine m (m .next s q) l)
+
+  abbrev pub seen : Machine S Q A → S → List Q → List A
+  seen m s [] = []
+  seen m s (q ∷ l) = cond (m .own s q) (m .answer s q ∷ seen m (m .next s q) l) (seen m (m .next s q) l)
+
+  abbrev pub met : Machine S Q A → S → List Q → List (Met S Q)
+  met m s [] = []
+  met m s (q ∷ l) = cond (m .own s q) (record { state = s; request = q } ∷ met m (m .next s q) l) (met m (m .next s q) l)
+
+  abbrev pub replies : Machine S Q A → S → List Q → List A
+  replies m s [] = []
+  replies m s (q ∷ l) = m .answer s q ∷ replies m (m .next s q) l
+
+  pub data Align (m n : Machine S Q A) (Match : S → S → Q → Q → Type 0) : S → S → List Q → List Q → Type 0 where
+    done : {s t : S} → Align m n Match s t [] []
+    left : {s t : S} {q : Q} {l k : List Q} → m .own s q ≡ false → Align m n Match (m .next s q) t l k → Align m n Match s t (q ∷ l) k
+    right : {s t : S} {p : Q} {l k : List Q} → n .own t p ≡ false → Align m n Match s (n .next t p) l k → Align m n Match s t l (p ∷ k)
+    both : {s t : S} {q p : Q} {l k : List Q} → m .own s q ≡ true → n .own t p ≡ true → Match s t q p
+        → Align m n Match (m .next s q) (n .next t p) l k → Align m n Match s t (q ∷ l) (p ∷ k)
+
+  pub record Laws (m n : Machine S Q A) (Match : S → S → Q → Q → Type 0) (R : S → S → Type 0) : Type 0 where
+    pub skip-left : {s t : S} → R s t → (q : Q) → m .own s q ≡ false → R (m .next s q) t
+    pub skip-right : {s t : S} → R s t → (q : Q) → n .own t q ≡ false → R s (n .next t q)
+    pub step : {s t : S} → R s t → (q p : Q) → Match s t q p → m .own s q ≡ true → n .own t p ≡ true
+        → (m .answer s q ≡ n .answer t p) × R (m .next s q) (n .next t p)
+
+  pub aligned : {m n : Machine S Q A} {Match : S → S → Q → Q → Type 0} {R : S → S → Type 0} → Laws m n Match R
+      → {s t : S} {l k : List Q} → Align m n Match s t l k → R s t
+      → (seen m s l ≡ seen n t k) × R (end (m .next) s l) (end (n .next) t k)
+  aligned w done r = (refl, r)
+  aligned w (left {q = q} o a) r = rw o (aligned w a (w .skip-left r q o))
+  aligned w (right {p = p} o a) r = rw o (aligned w a (w .skip-right r p o))
+  aligned w (both {q = q} {p = p} o o′ h a) r =
+      let now = w .step r q p h o o′ in
+      let rest = aligned w a (now .1) in
+      rw (o, o′) (cc, rest .1)
+
+-- ---- lists whose owned requests match in order stand side by side
+
+abbrev pub Pairs : {X : Type 0} → (X → X → Type 0) → List X → List X → Type 0
+Pairs M [] [] = Unit {0}
+Pairs M [] (p ∷ k) = ⊥
+Pairs M (q ∷ l) [] = ⊥
+Pairs M (q ∷ l) (p ∷ k) = M q p × Pairs M l k
+
+abbrev pub OfMet : {S Q : Type 0} → (S → S → Q → Q → Type 0) → Met S Q → Met S Q → Type 0
+OfMet Match x y = Match (x .state) (y .state) (x .request) (y .request)
+
+module _ {S Q A : Type 0} {m n : Machine S Q A} {Match : S → S → Q → Q → Type 0} where
+  -- nothing owned is left on the left: all on the right stands alone
+  none-left : (s t : S) (k : List Q) → Pairs (OfMet Match) [] (met n t k) → Align m n Match s t [] k
+  none-left s t [] e = done
+  none-left s t (p ∷ k) e = by-cases (n .own t p) (λ o. absurd (rw o at e)) (λ o. right o (none-left s (n .next t p) k (rw o at e)))
+
+  -- the left's next request is owned: what is not owned on the right stands alone, until its match comes
+  one-left : (s t : S) (q : Q) (l k : List Q) → m .own s q ≡ true
+      → ((t′ : S) (k′ : List Q) → Pairs (OfMet Match) (met m (m .next s q) l) (met n t′ k′) → Align m n Match (m .next s q) t′ l k′)
+      → Pairs (OfMet Match) (record { state = s; request = q } ∷ met m (m .next s q) l) (met n t k) → Align m n Match s t (q ∷ l) k
+  one-left s t q l [] o rest e = absurd e
+  one-left s t q l (p ∷ k) o rest e =
+      by-cases (n .own t p)
+      (λ o′. let x = rw o′ at e in both o o′ (x .0) (rest (n .next t p) k (x .1)))
+      (λ o′. right o′ (one-left s (n .next t p) q l k o rest (rw o′ at e)))
+
+  pub paired : (s t : S) (l k : List Q) → Pairs (OfMet Match) (met m s l) (met n t k) → Align m n Match s t l k
+  paired s t [] k e = none-left s t k e
+  paired s t (q ∷ l) k e =
+      by-cases (m .own s q)
+      (λ o. one-left s t q l k o (λ t′ k′. paired (m .next s q) t′ l k′) (rw o at e))
+      (λ o. left o (paired (m .next s q) t l k (rw o at e)))
+
+pub unwound : {S Q A : Type 0} {m n : Machine S Q A} {Match : S → S → Q → Q → Type 0} {R : S → S → Type 0} → Laws m n Match R
+    → (s t : S) → R s t → (l k : List Q) → Pairs (OfMet Match) (met m s l) (met n t k)
+    → (seen m s l ≡ seen n t k) × R (end (m .next) s l) (end (n .next) t k)
+unwound w s t r l k e = aligned w (paired s t l k e) r
+
+-- ---- requests that match by being equal, in whatever states
+
+module _ {S Q : Type 0} where
+  abbrev pub requests : List (Met S Q) → List Q
+  requests [] = []
+  requests (x ∷ l) = x .request ∷ requests l
+
+  equal-pairs : (l k : List (Met S Q)) → requests l ≡ requests k → Pairs (OfMet (λ (s t : S). _≡_)) l k
+  equal-pairs [] [] e = tt
+  equal-pairs [] (y ∷ k) e = absurd (let z : _≡_ {A = ℕ} 0 1 = cc in omega arith)
+  equal-pairs (x ∷ l) [] e = absurd (let z : _≡_ {A = ℕ} 0 1 = cc in omega arith)
+  equal-pairs (x ∷ l) (y ∷ k) e = (cc, equal-pairs l k (cc))
+
+pub pairs-both : {X : Type 0} (M N : X → X → Type 0) (l k : List X) → Pairs M l k → Pairs N l k → Pairs (λ x y. M x y × N x y) l k
+pairs-both M N [] [] a b = tt
+pairs-both M N [] (y ∷ k) a b = absurd a
+pairs-both M N (x ∷ l) [] a b = absurd a
+pairs-both M N (x ∷ l) (y ∷ k) a b = ((a .0, b .0), pairs-both M N l k (a .1) (b .1))
+
+module _ {S Q A : Type 0} where
+  met-mine : (m : Machine S Q A) (s : S) (l : List Q) → requests (met m s l) ≡ mine m s l
+  met-mine m s [] = refl
+  met-mine m s (q ∷ l) = by-cases (m .own s q) (λ o. rw (o, met-mine m (m .next s q) l)) (λ o. rw (o, met-mine m (m .next s q) l))
+
+  pub same-pairs : (m n : Machine S Q A) (s t : S) (l k : List Q) → mine m s l ≡ mine n t k → Pairs (OfMet (λ (s t : S). _≡_)) (met m s l) (met n t k)
+  same-pairs m n s t l k e = equal-pairs (met m s l) (met n t k) (met-mine m s l ∙ e ∙ sym (met-mine n t k))
+
+  -- equal requests, where the states that they meet share something besides
+  pub same-and : (m n : Machine S Q A) (Share : S → S → Q → Type 0) (s t : S) (l k : List Q) → mine m s l ≡ mine n t k
+      → Pairs (OfMet (λ s t q p. Share s t q)) (met m s l) (met n t k) → Pairs (OfMet (λ s t q p. (q ≡ p) × Share s t q)) (met m s l) (met n t k)
+  same-and m n Share s t l k e h =
+      pairs-both (OfMet (λ s t. _≡_)) (OfMet (λ s t q p. Share s t q)) (met m s l) (met n t k) (same-pairs m n s t l k e) h
+
+  pub unwound-same : {m n : Machine S Q A} {R : S → S → Type 0} → Laws m n (λ s t. _≡_) R
+      → (s t : S) → R s t → (l k : List Q) → mine m s l ≡ mine n t k
+      → (seen m s l ≡ seen n t k) × R (end (m .next) s l) (end (n .next) t k)
+  unwound-same {m} {n} w s t r l k e = unwound w s t r l k (same-pairs m n s t l k e)
+
+-- ---- a machine that runs as another one does, seen through h, as long as I holds
+
+pub record Runs {X S Q A : Type 0} (c : Machine X Q A) (m : Machine S Q A) (h : X → S) (I : X → Type 0) : Type 0 where
+  pub answers : (x : X) → I x → (q : Q) → c .answer x q ≡ m .answer (h x) q
+  pub owns : (x : X) → (q : Q) → c .own x q ≡ m .own (h x) q
+  pub moves : (x : X) → I x → (q : Q) → h (c .next x q) ≡ m .next (h x) q
+  pub stays : (x : X) → I x → (q : Q) → I (c .next x q)
+
+pub run-same : {X S Q A : Type 0} {c : Machine X Q A} {m : Machine S Q A} {h : X → S} {I : X → Type 0} → Runs c m h I
+    → (x : X) → I x → (l : List Q) → (replies c x l ≡ replies m (h x) l) × (h (end (c .next) x l) ≡ end (m .next) (h x) l)
+run-same w x i [] = (refl, refl)
+run-same {c = c} w x i (q ∷ l) =
+    let rest = run-same w (c .next x q) (w .stays x i q) l in
+    rw (w .answers x i q, ← w .moves x i q) (cc, rest .1)
+
+module _ {X S Q A : Type 0} {c d : Machine X Q A} {m n : Machine S Q A} {h : X → S} {I J : X → Type 0} {Match : S → S → Q → Q → Type 0}
+    {R : S → S → Type 0} (v : Runs c m h I) (w : Runs d n h J) (laws : Laws m n Match R) where
+  abbrev pub Lifted : X → X → Type 0
+  Lifted x y = I x × J y × R (h x) (h y)
+
+  pub lifted : Laws c d (λ x y. Match (h x) (h y)) Lifted
+  lifted = record {
+    skip-left = λ {s = x} {t = y} r q o. (v .stays x (r .0) q, r .1, rw (v .moves x (r .0) q) (laws .skip-left (r .2) q (rw (← v .owns x q) o)));
+    skip-right = λ {s = x} {t = y} r q o. (r .0, w .stays y (r .1) q, rw (w .moves y (r .1) q) (laws .skip-right (r .2) q (rw (← w .owns y q) o)));
+    step = λ {s = x} {t = y} r q p a o o′.
+        let z = laws .step (r .2) q p a (rw (← v .owns x q) o) (rw (← w .owns y p) o′) in (
+          v .answers x (r .0) q ∙ z .0 ∙ sym (w .answers y (r .1) p),
+          (v .stays x (r .0) q, w .stays y (r .1) p, rw (v .moves x (r .0) q, w .moves y (r .1) p) (z .1)),
+        );
+  }
+
+-- ---- where no request changes who owns what
+
+abbrev pub chosen : {Q : Type 0} → (Q → Bool) → List Q → List Q
+chosen own [] = []
+chosen own (q ∷ l) = cond (own q) (q ∷ chosen own l) (chosen own l)
+
+pub chosen-twice : {Q : Type 0} (own : Q → Bool) (l : List Q) → chosen own (chosen own l) ≡ chosen own l
+chosen-twice own [] = refl
+chosen-twice own (q ∷ l) = by-cases (own q) (λ o. rw (o, o, chosen-twice own l)) (λ o. rw (o, chosen-twice own l))
+
+module _ {S Q A : Type 0} (m : Machine S Q A) (kept : (s : S) (q p : Q) → m .own (m .next s q) p ≡ m .own s p) where
+  own-kept : (s : S) (q : Q) → m .own (m .next s q) ≡ m .own s
+  own-kept s q = fun-ext (kept s q)
+
+  pub mine-chosen : (s : S) (l : List Q) → mine m s l ≡ chosen (m .own s) l
+  mine-chosen s [] = refl
+  mine-chosen s (q ∷ l) = let rest : mine m (m .next s q) l ≡ chosen (m .own s) l = rw (own-kept s q) at (mine-chosen (m .next s q) l) in rw rest
+
+  pub seen-chosen : (s : S) (l : List Q) → seen m s (chosen (m .own s) l) ≡ replies m s (chosen (m .own s) l)
+  seen-chosen s [] = refl
+  seen-chosen s (q ∷ l) =
+      let rest : seen m (m .next s q) (chosen (m .own s) l) ≡ replies m (m .next s q) (chosen (m .own s) l) =
+      rw (own-kept s q) at (seen-chosen (m .next s q) l) in
+      by-cases (m .own s q) (λ o. rw (o, o, rest)) (λ o. rw o (seen-chosen s l))
