@@ -1,1 +1,3 @@
+pub mod Isolation
 pub mod Unwind
+pub mod View
