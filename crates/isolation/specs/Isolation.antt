@@ -49,7 +49,7 @@ pub record Isolation : Type 0 where
 
 -- ---- the laws of the two machines
 
-belongs-keeps : (G : PeNumber → Bool) (f : Tables) (m : List ℕ) (s : Live) (q p : Request) → belongs G f (after f m s q) p ≡ belongs G f s p
+pub belongs-keeps : (G : PeNumber → Bool) (f : Tables) (m : List ℕ) (s : Live) (q p : Request) → belongs G f (after f m s q) p ≡ belongs G f s p
 belongs-keeps G f m s q p = ap (owned G) (owner-keeps f (owner f s q) (decided f m s q .effect) s p)
 
 closed-agrees : {G : PeNumber → Bool} {f g : Tables} → Alike G f g → Closed G f → Closed G g

@@ -1,3 +1,4 @@
+pub mod Corollaries
 pub mod Isolation
 pub mod Unwind
 pub mod View

@@ -1,0 +1,73 @@
+-- What demand 3 gives of one bridge, and its other form.
+--     one-bridge          one start and two lists whose own requests are equal
+--     as-if-alone         a group's answers and words in any list are those that it gets when only its own requests are made
+--     isolated-met        the claim with own requests by the state that each meets
+--     reason-one-both     if reason 1 holds, it holds for both bridges; reason-one: every answer is then 1, and nothing changes
+-- Assumes nothing.
+use mathlib.Core.Path.{_≡_, refl, sym, ap, ap₂, _∙_}
+use mathlib.Core.Bool.{Bool, false}
+use mathlib.Core.List.{List}
+use Rattle.kinds.specs.Outcome.{refused}
+use Rattle.kinds.specs.declared.answer.Answer.the-variants.{Refuse}
+use Rattle.kinds.specs.declared.answer.Reason.the-variants.{TableLength}
+use Rattle.kinds.specs.declared.lookup.Owner.{Owner}
+use Rattle.kinds.specs.declared.lookup.Owner.the-variants.{Of, Nobody}
+use Rattle.kinds.specs.declared.number.PeNumber.{PeNumber}
+use Rattle.kinds.specs.declared.outcome.Effect.the-variants.{Keep}
+use Rattle.kinds.specs.declared.outcome.Outcome.{Outcome}
+use Rattle.kinds.specs.declared.request.Request.{Request}
+use Rattle.profile.specs.Tables.{Tables, Live, sized}
+use Rattle.profile.specs.Step.{owner, act, actBy, decidedBy, decided, answered, after}
+use Rattle.profile.specs.Agree.{belongs, Closed}
+use Rattle.isolation.specs.Unwind.{mine, replies, chosen-twice, seen-chosen}
+use Rattle.isolation.specs.View.{Bridge, lengthsOf, Public, Written, View}
+use Rattle.isolation.specs.Isolation.{machine, own, answers, left, belongs-keeps, met-own, isolation}
+
+view-refl : (G : PeNumber → Bool) (a : Bridge) → View G a a
+view-refl G a = record {
+  public = record {
+    sizes = refl;
+    all-lengths = refl;
+    requesters = refl;
+    peers = refl;
+    windows = refl;
+    segments = refl;
+    interrupt-pe = λ i h. refl;
+  };
+  written = record { stop-bits = λ p g. refl; reason = λ p g. refl; value = λ p g. refl; interrupts = λ i h g. refl };
+  entries = λ p g h b. refl;
+  table-words = λ k r. refl;
+}
+
+pub one-bridge : (G : PeNumber → Bool) (a : Bridge) → Closed G (a .tables) → (l k : List Request) → own G a l ≡ own G a k
+    → (answers G a l ≡ answers G a k) × Written G (a .tables .sizes .interrupts) (left a l) (left a k)
+one-bridge G a c l k e = isolation .isolated G a a c (view-refl G a) l k e
+
+pub as-if-alone : (G : PeNumber → Bool) (a : Bridge) → Closed G (a .tables) → (l : List Request)
+    → (answers G a l ≡ replies (machine G (a .tables) (a .memory)) (a .live) (own G a l))
+    × Written G (a .tables .sizes .interrupts) (left a l) (left a (own G a l))
+as-if-alone G a c l =
+    let alone = one-bridge G a c l (own G a l) (sym (chosen-twice (belongs G (a .tables) (a .live)) l)) in
+    (alone .0 ∙ seen-chosen (machine G (a .tables) (a .memory)) (belongs-keeps G (a .tables) (a .memory)) (a .live) l, alone .1)
+
+pub isolated-met : (G : PeNumber → Bool) (a b : Bridge) → Closed G (a .tables) → View G a b → (l k : List Request)
+    → mine (machine G (a .tables) (a .memory)) (a .live) l ≡ mine (machine G (b .tables) (b .memory)) (b .live) k
+    → (answers G a l ≡ answers G b k) × Written G (a .tables .sizes .interrupts) (left a l) (left b k)
+isolated-met G a b c v l k e = isolation .isolated G a b c v l k (sym (met-own G a l) ∙ e ∙ met-own G b k)
+
+pub reason-one-both : (a b : Bridge) → Public a b → sized (a .tables .sizes) (lengthsOf a) ≡ sized (b .tables .sizes) (lengthsOf b)
+reason-one-both a b v = ap₂ sized (v .sizes) (v .all-lengths)
+
+kept : (f : Tables) (o : Owner) (s : Live) → actBy f o Keep s ≡ s
+unfolding actBy act
+kept f (Of p) s = refl
+kept f (Nobody r) s = refl
+
+decided-one : (a : Bridge) (q : Request) → sized (a .tables .sizes) (lengthsOf a) ≡ false → decided (a .tables) (a .memory) (a .live) q ≡ refused TableLength
+unfolding decidedBy
+decided-one a q o = rw o
+
+pub reason-one : (a : Bridge) (q : Request) → sized (a .tables .sizes) (lengthsOf a) ≡ false
+    → (answered (a .tables) (a .memory) (a .live) q ≡ Refuse TableLength 0) × (after (a .tables) (a .memory) (a .live) q ≡ a .live)
+reason-one a q o =
+    (ap (λ (x : Outcome). x .answer) (decided-one a q o), rw (decided-one a q o) (kept (a .tables) (owner (a .tables) (a .live) q) (a .live)))
