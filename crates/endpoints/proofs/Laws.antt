@@ -16,7 +16,7 @@ use Rattle.kinds.specs.declared.request.Part.{Part}
 use Rattle.kinds.specs.declared.request.Part.the-variants.{Mmio, Dma, Record}
 use Rattle.profile.specs.Freeze.{froze, released}
 use Rattle.profile.specs.Tables.{stateWords}
-use Rattle.endpoints.specs.Turn.{stopped, turned}
+use Rattle.endpoints.specs.Turn.{stopped, turned, freezeTurn}
 use Rattle.endpoints.specs.TurnLaws.{length-turned, turns-is}
 
 pub listed : (w : List ℕ) (k : ℕ) {x : ℕ} → x ≡ at w (k / 64) → eqb (x / 2 ^ (k % 64) % 2) 1 ≡ bitOf w k
@@ -32,26 +32,26 @@ module _ (l : List ℕ) (k r v : ℕ) {b o : ℕ} {m : List ℕ} (stop : b ≡ a
   unfolding stopped
   stopped-full e = rw (← reason, ne-eqb o 0 e, ← stop) bits
 
-module _ (w : List ℕ) (p : PeNumber) (r v : ℕ) (l : List ℕ) (k : ℕ) where
-  pub turned-failing : {x : List ℕ} → k ≡ p .0 → x ≡ stopped r v l k → x ≡ turned w p r v l k
+module _ (b : Bool) (p : PeNumber) (r v : ℕ) (l : List ℕ) (k : ℕ) where
+  pub turned-failing : {x : List ℕ} → k ≡ p .0 → x ≡ stopped r v l k → x ≡ turned b p r v l k
   unfolding turned
   turned-failing e h = rw (eq-eqb k (p .0) e) h
 
-  module _ {b : Bool} (e : k ≡ p .0 → ⊥) (asked : b ≡ bitOf w k) where
-    pub turned-peer : {n : ℕ} {x : List ℕ} → b ≡ true → n ≡ reasonNumber FrozenAsPeer → x ≡ stopped n (p .0) l k → x ≡ turned w p r v l k
-    unfolding turned
-    turned-peer y f h = rw (ne-eqb k (p .0) e, ← asked, y, ← f) h
+  pub turned-peer : {n : ℕ} {x : List ℕ} → (k ≡ p .0 → ⊥) → b ≡ true → n ≡ reasonNumber FrozenAsPeer → x ≡ stopped n (p .0) l k → x ≡ turned b p r v l k
+  unfolding turned
+  turned-peer e y f h = rw (ne-eqb k (p .0) e, y, ← f) h
 
-    pub turned-other : b ≡ false → l ≡ turned w p r v l k
-    unfolding turned
-    turned-other y = rw (ne-eqb k (p .0) e, ← asked, y)
+  pub turned-other : (k ≡ p .0 → ⊥) → b ≡ false → l ≡ turned b p r v l k
+  unfolding turned
+  turned-other e y = rw (ne-eqb k (p .0) e, y)
 
-module _ (w : List ℕ) (p : PeNumber) (n v : ℕ) (l : List ℕ) {m : List ℕ} (k : ℕ) (e : m ≡ turns (turned w p n v) l k) where
-  pub turn-next : {x : List ℕ} → x ≡ turned w p n v m k → x ≡ turns (turned w p n v) l (k + 1)
-  turn-next h = turns-next (turned w p n v) l k e h
+module _ (w : List ℕ) (p : PeNumber) (n v : ℕ) (l : List ℕ) {m : List ℕ} (k : ℕ) (e : m ≡ turns (freezeTurn w p n v) l k) where
+  module _ {b : Bool} {x : List ℕ} (asked : b ≡ bitOf w k) (h : x ≡ turned b p n v m k) where
+    pub turn-next : x ≡ turns (freezeTurn w p n v) l (k + 1)
+    turn-next = turns-next (freezeTurn w p n v) l k e (rw (← asked) h)
 
-  pub turn-length : {x : List ℕ} → x ≡ turned w p n v m k → length m ≡ length l → length x ≡ length l
-  turn-length h g = ap length h ∙ length-turned w p n v m k ∙ g
+    pub turn-length : length m ≡ length l → length x ≡ length l
+    turn-length g = ap length (rw asked at h) ∙ length-turned w p n v m k ∙ g
 
   pub turn-last : (r : Reason) → n ≡ reasonNumber r → length m ≡ length l → length m ≤ k * stateWords → m ≡ froze w p (reasonNumber r) v l
   turn-last r f g h = rw (← f) (e ∙ turns-is w p n v l k (rw (← g) h))

@@ -18,7 +18,7 @@ use Rattle.kinds.specs.Words.{at, bitOf}
 use Rattle.kinds.specs.declared.number.PeNumber.{PeNumber}
 use Rattle.profile.specs.Freeze.{marked, frozen, froze}
 use Rattle.profile.specs.Tables.{stateWords}
-use Rattle.endpoints.specs.Turn.{stopped, turned}
+use Rattle.endpoints.specs.Turn.{stopped, turned, freezeTurn}
 
 module _ (l : List ℕ) (k : ℕ) where
   -- word i is a word of PE k, or not
@@ -53,13 +53,13 @@ module _ (l : List ℕ) (k : ℕ) where
         (λ o. rw o (simp (at-first stateWords (omega arith)) (word-cases i (λ g z d. rw (g, z, d)) (λ g z. rw (g, z)) (λ g z. rw (g, z)) (λ g. rw g))))
 
 module _ (w : List ℕ) (p : PeNumber) (r v : ℕ) where
-  pub length-turned : (l : List ℕ) (k : ℕ) → length (turned w p r v l k) ≡ length l
+  pub length-turned : (l : List ℕ) (k : ℕ) → length (freezeTurn w p r v l k) ≡ length l
   unfolding turned
   length-turned l k =
       by-cases (eqb k (p .0)) (λ o. rw o (length-stopped l k r v))
       (λ o. rw o (by-cases (bitOf w k) (λ q. rw q (length-stopped l k _ _)) (λ q. rw q)))
 
-  at-turned : (l : List ℕ) (k i : ℕ) → at (turned w p r v l k) i ≡ cond (owned l k i) (frozen w p r v l i (at l i)) (at l i)
+  at-turned : (l : List ℕ) (k i : ℕ) → at (freezeTurn w p r v l k) i ≡ cond (owned l k i) (frozen w p r v l i (at l i)) (at l i)
   unfolding turned frozen
   at-turned l k i =
       by-cases (owned l k i)
@@ -74,5 +74,5 @@ module _ (w : List ℕ) (p : PeNumber) (r v : ℕ) where
   unfolding frozen
   frozen-reads l m i x h = rw (h (i / stateWords * stateWords + 1) (omega arith))
 
-  pub turns-is : (l : List ℕ) (n : ℕ) → length l ≤ n * stateWords → turns (turned w p r v) l n ≡ froze w p r v l
-  turns-is l n h = turns-mapAt stateWords (omega arith) (frozen w p r v) (turned w p r v) length-turned frozen-reads at-turned l n h
+  pub turns-is : (l : List ℕ) (n : ℕ) → length l ≤ n * stateWords → turns (freezeTurn w p r v) l n ≡ froze w p r v l
+  turns-is l n h = turns-mapAt stateWords (omega arith) (frozen w p r v) (freezeTurn w p r v) length-turned frozen-reads at-turned l n h

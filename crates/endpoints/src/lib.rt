@@ -57,22 +57,30 @@ pub fn freeze(state: &mut [u64], peers: [u64; 4], pe: PeNumber, reason: Reason, 
     let number = reason_number(reason);
     let mut k: usize = 0;
     while k * STATE_WORDS < state.len() {
-        turn(state, peers, pe, number, value, k);
+        let peer = is_peer(&peers, k);
+        turn(state, k, peer, pe, number, value);
         k += 1;
     }
 }
 
-// The turn of PE k in a freeze of PE `pe`.
-fn turn(state: &mut [u64], peers: [u64; 4], pe: PeNumber, reason: u64, value: u64, k: usize)
+fn is_peer(peers: &[u64], k: usize) -> bool
+    ensures { λ r. ⌜ r ≡ bitOf (now (peers .entry)) k ⌝ }
+{
+    let bits = word(peers, k / 64);
+    (bits >> (k % 64)) % 2 == 1
+}
+
+// The turn of PE k in a freeze of PE `pe`; `peer` says whether k is in the vector.
+fn turn(state: &mut [u64], k: usize, peer: bool, pe: PeNumber, reason: u64, value: u64)
     requires { ⌜ k * stateWords < length (now state) ⌝ }
-    ensures { λ _. ⌜ now (state .exit) ≡ turned peers pe reason value (now (state .entry)) k ⌝ }
+    ensures { λ _. ⌜ now (state .exit) ≡ turned peer pe reason value (now (state .entry)) k ⌝ }
 {
     let failing = pe.0 as usize;
     if k == failing {
         stop(state, k, reason, value);
         return;
     }
-    if is_peer(peers, k) {
+    if peer {
         stop(
             state,
             k,
@@ -80,13 +88,6 @@ fn turn(state: &mut [u64], peers: [u64; 4], pe: PeNumber, reason: u64, value: u6
             failing as u64,
         );
     }
-}
-
-fn is_peer(peers: [u64; 4], k: usize) -> bool
-    ensures { λ r. ⌜ r ≡ bitOf peers k ⌝ }
-{
-    let bits = word(&peers, k / 64);
-    (bits >> (k % 64)) % 2 == 1
 }
 
 // Both stop bits of PE k are set, the others stay, and its record is written if it is empty.

@@ -1,3 +1,5 @@
+-- `endpoints::freeze` meets its contract. The invariant: the state is as k turns leave it. The measure is what is left of the state.
+-- Assumes nothing.
 use Rattle.endpoints.proofs.Laws as laws
 use borrow.Author.Needs.{needs}
 use mathlib.Core.Path.{_≡_, refl}
@@ -6,16 +8,16 @@ use native.Mathlib.Omega.{arith}
 use lib.ListN.{length}
 use Rattle.kinds.specs.Turns.{turns}
 use Rattle.profile.specs.Tables.{stateWords}
-use Rattle.endpoints.specs.Turn.{turned}
+use Rattle.endpoints.specs.Turn.{freezeTurn}
 use Rattle.endpoints.proofs.freeze.Statement.{statement}
 use Rattle.endpoints.proofs.freeze.Tie as tie
 
 abbrev Inv-loop : tie.InvT-loop
-Inv-loop state₀ peers pe value number k₀ state k =
-    (k * stateWords ≤ length state + 2) × (length state ≡ length state₀) × (state ≡ turns (turned peers pe number value) state₀ k)
+Inv-loop state₀ pe value peers number k₀ state k =
+    (k * stateWords ≤ length state + 2) × (length state ≡ length state₀) × (state ≡ turns (freezeTurn peers pe number value) state₀ k)
 
 abbrev μ-loop : tie.MeasureT-loop
-μ-loop state₀ peers pe value number k₀ state k = length state + stateWords - k * stateWords
+μ-loop state₀ pe value peers number k₀ state k = length state + stateWords - k * stateWords
 
 reason-number-requires : tie.Need-reason-number-requires Inv-loop μ-loop
 reason-number-requires c κs = search needs
@@ -25,6 +27,12 @@ loop-holds c = (omega arith, refl, unfold turns in refl)
 
 mul-loop : tie.Need-mul-loop Inv-loop μ-loop
 mul-loop c = search needs
+
+slice-aggregate-is-peer : tie.Need-slice-aggregate-is-peer Inv-loop μ-loop
+slice-aggregate-is-peer c = search needs
+
+is-peer-requires : tie.Need-is-peer-requires Inv-loop μ-loop
+is-peer-requires c κs = search needs
 
 turn-requires : tie.Need-turn-requires Inv-loop μ-loop
 turn-requires c κs = search needs
@@ -53,6 +61,8 @@ freeze-spec =
     reason-number-requires
     loop-holds
     mul-loop
+    slice-aggregate-is-peer
+    is-peer-requires
     turn-requires
     add-k
     loop-less

@@ -3,9 +3,6 @@ use borrow.Author.Needs.{needs}
 use Rattle.endpoints.proofs.is_peer.Statement.{statement}
 use Rattle.endpoints.proofs.is_peer.Tie as tie
 
-slice-aggregate-word : tie.Need-slice-aggregate-word
-slice-aggregate-word c = search needs
-
 word-requires : tie.Need-word-requires
 word-requires c κs = search needs
 
@@ -16,4 +13,4 @@ returns : tie.Need-returns
 returns c = search laws.listed
 
 pub is-peer-spec : {M : Type 1} → statement M
-is-peer-spec = tie.close (tie.spec slice-aggregate-word word-requires shr-result returns)
+is-peer-spec = tie.close (tie.spec word-requires shr-result returns)

@@ -15,9 +15,6 @@ same-length c = search needs
 returns : tie.Need-returns
 returns c = search laws.turned-failing
 
-is-peer-requires : tie.Need-is-peer-requires
-is-peer-requires c κs = search needs
-
 reason-number-requires : tie.Need-reason-number-requires
 reason-number-requires c κs = search needs
 
@@ -41,7 +38,6 @@ turn-spec =
     stop-requires
     same-length
     returns
-    is-peer-requires
     reason-number-requires
     stop-requires-2
     same-length-2
