@@ -1,5 +1,6 @@
 -- 01, 'MSI', and the firmware requests of an interrupt under 'Firmware'.
---     interrupt s i       the record of interrupt i
+--     interruptIn l i     the record of interrupt i in the interrupts l; interrupt s i: in what is written
+--     stored p i n b l    the interrupts l after PE p wrote priority n and state b of interrupt i
 --     ranged e            server below 2 ^ 24, priority at most 255, state at most 3
 --     number32, number64  the number of an MSI: the low five bits of data ORed with address bits 15..4 or 19..4
 --     msiFormed d a n     a write of 4 bytes at a multiple of 4
@@ -13,9 +14,11 @@
 --     prioritized i n e   its priority set to n, written first; from 255 to another with Q set, Q is cleared and an MSI is taken as arrived
 -- Assumes nothing.
 use mathlib.Core.Bool.{Bool, true, false, cond, not, _&&_}
+use mathlib.Core.List.{List}
 use Prim.Native.Nat.{ℕ, _+_, _*_, _/_, _%_, _^_}
 use lib.Bits.{bitOr}
 use lib.Dec.{leb, ltb, eqb}
+use lib.ListN.{set}
 use Rattle.kinds.specs.Outcome.{refused, failed, done}
 use Rattle.kinds.specs.Words.{at}
 use Rattle.kinds.specs.declared.answer.Answer.{Answer}
@@ -31,13 +34,21 @@ use Rattle.kinds.specs.declared.request.Direction.{Direction}
 use Rattle.kinds.specs.declared.request.Direction.the-variants.{Read, Write}
 use Rattle.profile.specs.Tables.{Tables, Live, interruptWords}
 
-abbrev pub interrupt : Live → ℕ → Interrupt
-interrupt s i = record {
-  pe = at (s .interrupts) (i * interruptWords);
-  server = at (s .interrupts) (i * interruptWords + 1);
-  priority = at (s .interrupts) (i * interruptWords + 2);
-  bits = at (s .interrupts) (i * interruptWords + 3);
+abbrev pub interruptIn : List ℕ → ℕ → Interrupt
+interruptIn l i = record {
+  pe = at l (i * interruptWords);
+  server = at l (i * interruptWords + 1);
+  priority = at l (i * interruptWords + 2);
+  bits = at l (i * interruptWords + 3);
 }
+
+abbrev pub interrupt : Live → ℕ → Interrupt
+interrupt s i = interruptIn (s .interrupts) i
+
+-- an interrupt is written only by the PE that it belongs to
+abbrev pub stored : PeNumber → (i priority bits : ℕ) → List ℕ → List ℕ
+stored p i n b l =
+    cond (eqb (interruptIn l i .pe) (p .0)) (set (set l (i * interruptWords + 2) n) (i * interruptWords + 3) b) l
 
 unfoldable pub ranged : Interrupt → Bool
 ranged e = ltb (e .server) (2 ^ 24) && leb (e .priority) 255 && leb (e .bits) 3
