@@ -1,6 +1,6 @@
 -- 01, 'DMA': the class of an address, the translation entry that it picks, and what the entry says before memory is read.
 --     classOf a           what address bits 63 to 60 ask for; within class 0, 0xFFFF0000..0xFFFFFFFF is the 32-bit MSI window
---     entry f p h         the first (h = 0) or second (h = 1) record of PE p
+--     entryIn l p h       the first (h = 0) or second (h = 1) record of PE p in the table l of translation entries; entry f p h: in the tables f
 --     half a, offset a    bit 59 of the address, and its low 59 bits
 --     pageSize e          the page size of page code 1, 5, 13 or 17: 2 ^ (code + 11) bytes
 --     indexBits e         a table has 2 ^ (code + 8) words
@@ -12,6 +12,7 @@
 --     unwalked p e a      else: bypass, 6 or 7
 -- Assumes nothing.
 use mathlib.Core.Bool.{Bool, cond, not, _&&_, _||_}
+use mathlib.Core.List.{List}
 use Prim.Native.Nat.{ℕ, _+_, _*_, _/_, _%_, _^_}
 use lib.Dec.{leb, ltb, eqb}
 use Rattle.kinds.specs.Number.{pageBits, pageNumber}
@@ -40,13 +41,16 @@ half a = a .0 / 2 ^ 59 % 2
 abbrev pub offset : ByteAddress → ByteAddress
 offset a = record { 0 = a .0 % 2 ^ 59 }
 
-abbrev pub entry : Tables → PeNumber → (half : ℕ) → TranslationEntry
-entry f p h = record {
-  base = at (f .entries) (p .0 * entryWords + h * recordWords);
-  levels = at (f .entries) (p .0 * entryWords + (h * recordWords + 1));
-  table = at (f .entries) (p .0 * entryWords + (h * recordWords + 2));
-  page = at (f .entries) (p .0 * entryWords + (h * recordWords + 3));
+abbrev pub entryIn : List ℕ → PeNumber → (half : ℕ) → TranslationEntry
+entryIn l p h = record {
+  base = at l (p .0 * entryWords + h * recordWords);
+  levels = at l (p .0 * entryWords + (h * recordWords + 1));
+  table = at l (p .0 * entryWords + (h * recordWords + 2));
+  page = at l (p .0 * entryWords + (h * recordWords + 3));
 }
+
+abbrev pub entry : Tables → PeNumber → (half : ℕ) → TranslationEntry
+entry f p h = entryIn (f .entries) p h
 
 unfoldable pub pageSize : TranslationEntry → PageSize
 pageSize e = cond (eqb (e .page) 5) K64 (cond (eqb (e .page) 13) M16 (cond (eqb (e .page) 17) M256 K4))
