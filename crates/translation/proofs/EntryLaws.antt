@@ -1,0 +1,36 @@
+-- The classes of an address and its offset, as the code finds them. Assumes nothing.
+use mathlib.Core.Path.{_≡_}
+use Prim.Native.Nat.{ℕ, _-_, _/_, _%_, _^_, _≤_, _<_}
+use native.Mathlib.Omega.{arith}
+use lib.Bits.{bitAnd, and-mask}
+use borrow.Author.Tests.{eq-eqb, ne-eqb, le-leb, lt-leb}
+use Rattle.kinds.specs.declared.number.ByteAddress.{ByteAddress}
+use Rattle.kinds.specs.declared.request.AddressClass.{AddressClass}
+use Rattle.kinds.specs.declared.request.AddressClass.the-variants.{Dma, Msi32, Msi64, Unserved}
+use Rattle.profile.specs.Entry.{classOf}
+use Rattle.translation.specs.Ask.{lowClass}
+
+module _ (a : ByteAddress) where
+  pub low-class : {r : AddressClass} → a .0 / 2 ^ 60 ≡ 0 → r ≡ lowClass a → r ≡ classOf a
+  unfolding classOf
+  low-class z e = rw (eq-eqb _ _ z) e
+
+  pub msi-class : a .0 / 2 ^ 60 ≡ 1 → Msi64 ≡ classOf a
+  unfolding classOf
+  msi-class z = rw z
+
+  pub unserved-class : (a .0 / 2 ^ 60 ≡ 0 → ⊥) → (a .0 / 2 ^ 60 ≡ 1 → ⊥) → Unserved ≡ classOf a
+  unfolding classOf
+  unserved-class z y = rw (ne-eqb _ 0 z, ne-eqb _ 1 y)
+
+  pub msi-window : 0xFFFF0000 ≤ a .0 → a .0 < 0x100000000 → Msi32 ≡ lowClass a
+  msi-window l h = rw (le-leb _ _ l, le-leb (a .0) 0xFFFFFFFF (omega arith))
+
+  pub below-window : a .0 < 0xFFFF0000 → Dma ≡ lowClass a
+  below-window l = rw (lt-leb _ _ l)
+
+  pub above-window : 0x100000000 ≤ a .0 → Dma ≡ lowClass a
+  above-window h = rw (le-leb 0xFFFF0000 (a .0) (omega arith), lt-leb (a .0) 0xFFFFFFFF (omega arith))
+
+  pub masked-offset : bitAnd (a .0) (2 ^ 59 - 1) ≡ a .0 % 2 ^ 59
+  masked-offset = and-mask (a .0) 59

@@ -1,0 +1,6 @@
+mod AskLaws
+mod DmaLaws
+mod EntryLaws
+mod ShapeLaws
+mod TurnLaws
+mod WalkLaws

@@ -1,0 +1,76 @@
+-- What the functions below `walk` are proved from: shifts and masks, and one turn. Assumes nothing.
+use mathlib.Core.Path.{_≡_, refl, sym, ap, _∙_}
+use mathlib.Core.Bool.{Bool, true, false, cond}
+use mathlib.Core.List.{List}
+use Prim.Native.Nat.{ℕ, zero, suc, _+_, _-_, _*_, _/_, _%_, _^_, _≤_, _<_}
+use native.Mathlib.Nat.{mul-comm}
+use native.Mathlib.Numerals.{sub-one}
+use native.Mathlib.Omega.{arith}
+use mir.Syntax.{w64}
+use mir.Val.{Fits}
+use lib.Bits.{bitAnd, and-mask}
+use lib.Dec.{eqb}
+use lib.ListN.{length}
+use lib.Pow.{pow-pos}
+use borrow.Author.Tests.{lt-ltb, le-ltb, eq-eqb, ne-eqb}
+use Rattle.kinds.specs.Powers.{eight-shl, one-shl-pos, masked, mod-lt-pow, cleared, less-one}
+use Rattle.kinds.specs.Words.{at}
+use Rattle.kinds.specs.declared.lookup.Found.{Found}
+use Rattle.kinds.specs.declared.lookup.Found.the-variants.{Frame, Forbidden, Outside}
+use Rattle.kinds.specs.declared.number.ByteAddress.{ByteAddress}
+use Rattle.kinds.specs.declared.number.PageNumber.{PageNumber}
+use Rattle.profile.specs.Entry.{aligned}
+use Rattle.profile.specs.Walk.{place, nextBase, leads, turn, walkFrom}
+use Rattle.profile.specs.Walk as definition
+use Rattle.translation.specs.Turn.{placeAt, next, counted}
+use Rattle.translation.specs.declared.walk.Next.{Next}
+use Rattle.translation.specs.declared.walk.Next.the-variants.{Table, End}
+use Rattle.translation.specs.declared.walk.Walked.{Walked}
+
+module _ {n : ℕ} (few : n ≤ 39) where
+  pub table-bytes : 1 ≤ 8 * 2 ^ n % 2 ^ 64
+  table-bytes = rw (eight-shl n (omega arith)) (pow-pos (3 + n))
+
+  pub multiple : (b : ByteAddress) → eqb (bitAnd (b .0) (8 * 2 ^ n % 2 ^ 64 - 1)) 0 ≡ aligned n b
+  unfolding aligned
+  multiple b = rw (eight-shl n (omega arith), and-mask (b .0) (3 + n))
+
+  pub table-words : 1 ≤ 1 * 2 ^ n % 2 ^ 64
+  table-words = one-shl-pos n (omega arith)
+
+  pub place-fits : (b x : ℕ) → b < 2 ^ 64 → Fits w64 (b / 8 + bitAnd x (1 * 2 ^ n % 2 ^ 64 - 1))
+  place-fits b x h = omega (arith, masked x n (omega arith), mod-lt-pow x n 39 few)
+
+  pub placed : (b : ByteAddress) (q : PageNumber) (s : ℕ) → b .0 / 8 + bitAnd (q .0 / 2 ^ s) (1 * 2 ^ n % 2 ^ 64 - 1) ≡ placeAt b q s n
+  placed b q s = rw (masked (q .0 / 2 ^ s) n (omega arith))
+
+pub base-is : (w : ℕ) → w < 2 ^ 64 → _≡_ {A = ByteAddress} (record { 0 = w / 4096 * 4096 % 2 ^ 64 }) (nextBase w)
+base-is w h = rw (cleared w 12 h)
+
+-- one turn: the last word
+pub last-word : (k n j w : ℕ) → k ≡ 0 → End (Frame w) ≡ next k n j w
+unfolding next
+last-word k n j w z = rw z
+
+-- and an upper word
+upper : (k n j w : ℕ) → (k ≡ 0 → ⊥) → next k n j w ≡ cond (leads n w) (Table (nextBase w)) (End (Forbidden j))
+unfolding next
+upper zero n j w up = absurd (up refl)
+upper (suc k) n j w up = refl
+
+module _ (k n j w : ℕ) (up : k ≡ 0 → ⊥) where
+  upper-is : next k n j w ≡ cond (leads n w) (Table (nextBase w)) (End (Forbidden j))
+  upper-is = upper k n j w up
+
+  pub no-rights : w % 4 ≡ 0 → End (Forbidden j) ≡ next k n j w
+  unfolding leads
+  no-rights z = sym (upper-is ∙ rw z)
+
+  module _ (rights : w % 4 ≡ 0 → ⊥) {b : ByteAddress} (e : b ≡ nextBase w) {ok : Bool} (a : ok ≡ aligned n b) where
+    pub leads-on : ok ≡ true → Table b ≡ next k n j w
+    unfolding leads
+    leads-on t = sym (upper-is ∙ rw (ne-eqb _ _ rights, ← e, ← a, t))
+
+    pub misaligned : ok ≡ false → End (Forbidden j) ≡ next k n j w
+    unfolding leads
+    misaligned t = sym (upper-is ∙ rw (ne-eqb _ _ rights, ← e, ← a, t))

@@ -1,0 +1,9 @@
+use Rattle.translation.proofs.EntryLaws as laws
+use Rattle.translation.proofs.entry.offset_of.Statement.{statement}
+use Rattle.translation.proofs.entry.offset_of.Tie as tie
+
+returns : tie.Need-returns
+returns c = search laws.masked-offset
+
+pub offset-of-spec : {M : Type 1} → statement M
+offset-of-spec = tie.close (tie.spec returns)

@@ -1,0 +1,9 @@
+use Rattle.translation.proofs.TurnLaws as laws
+use Rattle.translation.proofs.walk.next_base.Statement.{statement}
+use Rattle.translation.proofs.walk.next_base.Tie as tie
+
+returns : tie.Need-returns
+returns c = search laws.base-is
+
+pub next-base-spec : {M : Type 1} → statement M
+next-base-spec = tie.close (tie.spec returns)

@@ -1,0 +1,22 @@
+use Rattle.translation.proofs.TurnLaws as laws
+use borrow.Author.Needs.{needs}
+use Rattle.translation.proofs.walk.place.Statement.{statement}
+use Rattle.translation.proofs.walk.place.Tie as tie
+
+shr-result : tie.Need-shr-result
+shr-result c = search needs
+
+shl-result : tie.Need-shl-result
+shl-result c = search needs
+
+sub-result : tie.Need-sub-result
+sub-result c = search laws.table-words
+
+add-result : tie.Need-add-result
+add-result c = search laws.place-fits
+
+returns : tie.Need-returns
+returns c = search laws.placed
+
+pub place-spec : {M : Type 1} → statement M
+place-spec = tie.close (tie.spec shr-result shl-result sub-result add-result returns)

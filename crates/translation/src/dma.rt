@@ -1,0 +1,86 @@
+// What a DMA comes to by a translation entry.
+ghost use mathlib.Core.Path.{_≡_};
+ghost use Rattle.kinds.specs.declared.lookup.Found.the-variants.{Frame};
+ghost use Rattle.profile.specs.Walk.{allows, arriveAt, translated};
+use crate::ask::Asked;
+use crate::ask::ask;
+use crate::entry::offset_of;
+use crate::walk::walk;
+use kinds::answer::Reason;
+use kinds::lookup::Found;
+use kinds::number::ByteAddress;
+use kinds::number::PageSize;
+use kinds::number::PeNumber;
+use kinds::number::byte_address;
+use kinds::number::page_number;
+use kinds::outcome::Outcome;
+use kinds::outcome::failed;
+use kinds::outcome::passed;
+use kinds::record::TranslationEntry;
+use kinds::request::Direction;
+
+// By an entry of its PE.
+pub fn translate(
+    memory: &[u64],
+    entry: TranslationEntry,
+    pe: PeNumber,
+    direction: Direction,
+    address: ByteAddress,
+) -> Outcome
+    ensures { λ r. ⌜ r ≡ translated (now (memory .entry)) entry pe direction address ⌝ }
+{
+    match ask(pe, entry, address) {
+        Asked::Ready(outcome) => outcome,
+        Asked::Walk { size, page } => {
+            let walked = walk(memory, entry, page);
+            let found = walked.found;
+            arrive(size, direction, pe, address, found, walked.words)
+        }
+    }
+}
+
+// By what a walk found, with no memory lent.
+pub fn arrive(
+    size: PageSize,
+    direction: Direction,
+    pe: PeNumber,
+    address: ByteAddress,
+    found: Found,
+    words: u64,
+) -> Outcome
+    ensures { λ r. ⌜ r ≡ arriveAt size direction pe address found words ⌝ }
+{
+    match found {
+        Found::Frame { word } => reach(size, direction, pe, address, word, words),
+        Found::Forbidden { place: _ } => failed(Reason::TableWord, address, words),
+        Found::Outside { place: _ } => failed(Reason::OutsideMemory, address, words),
+    }
+}
+
+// By the last table word.
+fn reach(
+    size: PageSize,
+    direction: Direction,
+    pe: PeNumber,
+    address: ByteAddress,
+    word: u64,
+    words: u64,
+) -> Outcome
+    ensures { λ r. ⌜ r ≡ arriveAt size direction pe address (Frame word) words ⌝ }
+{
+    if allows(direction, word) {
+        let frame = page_number(size, ByteAddress(word));
+        return passed(pe, byte_address(size, frame, offset_of(address)), words);
+    }
+    failed(Reason::TableWord, address, words)
+}
+
+// Bit 0 is read-valid, bit 1 write-valid.
+fn allows(direction: Direction, word: u64) -> bool
+    ensures { λ r. ⌜ r ≡ allows direction word ⌝ }
+{
+    match direction {
+        Direction::Read => word % 2 == 1,
+        Direction::Write => (word >> 1) % 2 == 1,
+    }
+}
