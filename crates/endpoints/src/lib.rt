@@ -76,17 +76,13 @@ fn turn(state: &mut [u64], k: usize, peer: bool, pe: PeNumber, reason: u64, valu
     ensures { λ _. ⌜ now (state .exit) ≡ turned peer pe reason value (now (state .entry)) k ⌝ }
 {
     let failing = pe.0 as usize;
+    let as_peer = reason_number(Reason::FrozenAsPeer);
     if k == failing {
         stop(state, k, reason, value);
         return;
     }
     if peer {
-        stop(
-            state,
-            k,
-            reason_number(Reason::FrozenAsPeer),
-            failing as u64,
-        );
+        stop(state, k, as_peer, failing as u64);
     }
 }
 

@@ -6,6 +6,9 @@ use Rattle.endpoints.proofs.turn.Tie as tie
 cast-failing : tie.Need-cast-failing
 cast-failing c = search needs
 
+reason-number-requires : tie.Need-reason-number-requires
+reason-number-requires c κs = search needs
+
 stop-requires : tie.Need-stop-requires
 stop-requires c κs = search needs
 
@@ -14,9 +17,6 @@ same-length c = search needs
 
 returns : tie.Need-returns
 returns c = search laws.turned-failing
-
-reason-number-requires : tie.Need-reason-number-requires
-reason-number-requires c κs = search needs
 
 stop-requires-2 : tie.Need-stop-requires-2
 stop-requires-2 c κs = search needs
@@ -35,10 +35,10 @@ turn-spec =
     tie.close
     (tie.spec
     cast-failing
+    reason-number-requires
     stop-requires
     same-length
     returns
-    reason-number-requires
     stop-requires-2
     same-length-2
     returns-2
