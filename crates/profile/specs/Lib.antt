@@ -2,12 +2,14 @@ pub mod AccessCases
 pub mod ActLaws
 pub mod Agree
 pub mod AgreeLaws
+pub mod AnswersLaws
 pub mod Case
 pub mod Cases
 pub mod DmaCases
 pub mod Entry
 pub mod Freeze
 pub mod FreezeCases
+pub mod Limits
 pub mod Msi
 pub mod MsiCases
 pub mod Reasons
