@@ -1,4 +1,6 @@
+pub mod Bridges
 pub mod Corollaries
 pub mod Isolation
 pub mod Unwind
 pub mod View
+pub mod Witness

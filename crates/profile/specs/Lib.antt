@@ -12,6 +12,7 @@ pub mod FreezeCases
 pub mod Limits
 pub mod Msi
 pub mod MsiCases
+pub mod Opened
 pub mod Reasons
 pub mod RequestLaws
 pub mod Step

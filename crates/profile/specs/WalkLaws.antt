@@ -3,6 +3,7 @@
 --     goesOn k n w        word w leads on, and there is a level below
 --     first-read          the place of a level's word is among those read
 --     later-read          so is every place that the level below reads, where the word leads on
+--     walk-cases          a place that is read is this level's, or one that the level below reads where the word leads on
 --     turn-reads          what a word comes to depends on the level below only where the word leads on
 --     walkFrom-reads      THE FOOTPRINT: two memories of one length, with the same words at the places that the walk reads in the first, give the
 --                         same walk, so the same places
@@ -10,7 +11,7 @@
 -- Assumes nothing.
 use mathlib.Core.Path.{_≡_, refl}
 use mathlib.Core.Bool.{Bool, true, false, cond}
-use mathlib.Core.List.{List, [], List·Memᴰ, List·Memᴰ·head, List·Memᴰ·tail}
+use mathlib.Core.List.{List, [], _∷_, List·Memᴰ, List·Memᴰ·head, List·Memᴰ·tail, List·Memᴰ·not-nil}
 use Prim.Native.Nat.{ℕ, zero, suc}
 use lib.Dec.{ltb}
 use lib.ListN.{length}
@@ -54,6 +55,32 @@ pub turn-reads : (k n j w : ℕ) (r q : Walked) → (goesOn k n w ≡ true → r
 unfolding turn
 turn-reads zero n j w r q h = refl
 turn-reads (suc k) n j w r q h = by-cases (leads n w) (λ o. rw (h o)) (λ o. rw o)
+
+-- one place, or another
+mem-cases : {P : Type 0} {i j : ℕ} {l : List ℕ} → List·Memᴰ i (j ∷ l) → (i ≡ j → P) → (List·Memᴰ i l → P) → P
+mem-cases (List·Memᴰ·head e) f g = f e
+mem-cases (List·Memᴰ·tail h) f g = g h
+
+turn-cases : {P : Type 0} (k n j w : ℕ) (r : Walked) (i : ℕ) → List·Memᴰ i (turn k n j w r .reads)
+    → (i ≡ j → P) → (goesOn k n w ≡ true → List·Memᴰ i (r .reads) → P) → P
+unfolding turn
+turn-cases zero n j w r i h f g = mem-cases h f (λ z. absurd (List·Memᴰ·not-nil z))
+turn-cases (suc k) n j w r i h f g =
+    by-cases (leads n w)
+    (λ o. mem-cases (rw o at h) f (λ z. g o z))
+    (λ o. mem-cases (rw o at h) f (λ z. absurd (List·Memᴰ·not-nil z)))
+
+pub walk-cases : {P : Type 0} (m : List ℕ) (k n : ℕ) (b : ByteAddress) (q : PageNumber) (i : ℕ) → List·Memᴰ i (walkFrom m (suc k) n b q .reads)
+    → (i ≡ place k n b q → P)
+    → (goesOn k n (at m (place k n b q)) ≡ true → List·Memᴰ i (walkFrom m k n (nextBase (at m (place k n b q))) q .reads) → P)
+    → P
+walk-cases m k n b q i h f g =
+    let j = place k n b q in
+    let below = walkFrom m k n (nextBase (at m j)) q in
+    let z : List·Memᴰ i (cond (ltb j (length m)) (turn k n j (at m j) below) (record { found = Outside j; reads = [] }) .reads) = rw (walk-suc m k n b q) at h in
+    by-cases (ltb j (length m))
+    (λ o. turn-cases k n j (at m j) below i (rw o at z) f g)
+    (λ o. absurd (List·Memᴰ·not-nil (rw o at z)))
 
 module _ (m m′ : List ℕ) (same-length : length m ≡ length m′) where
   pub walkFrom-reads : (l n : ℕ) (b : ByteAddress) (q : PageNumber)
