@@ -1,6 +1,7 @@
 -- What demand 3 gives of one bridge, and its other form.
 --     one-bridge          one start and two lists whose own requests are equal
 --     as-if-alone         a group's answers and words in any list are those that it gets when only its own requests are made
+--     view-after          after both lists the bridges meet the premises again, so the claim holds of what follows
 --     isolated-met        the claim with own requests by the state that each meets
 --     reason-one-both     if reason 1 holds, it holds for both bridges; reason-one: every answer is then 1, and nothing changes
 -- Assumes nothing.
@@ -19,25 +20,13 @@ use Rattle.kinds.specs.declared.request.Request.{Request}
 use Rattle.profile.specs.Tables.{Tables, Live, sized}
 use Rattle.profile.specs.Step.{owner, act, actBy, decidedBy, decided, answered, after}
 use Rattle.profile.specs.Agree.{belongs, Closed}
+use Rattle.profile.specs.AgreeLaws.{alike-refl, same-refl, held-refl}
 use Rattle.isolation.specs.Unwind.{mine, replies, chosen-twice, seen-chosen}
-use Rattle.isolation.specs.View.{Bridge, lengthsOf, Public, Written, View}
-use Rattle.isolation.specs.Isolation.{machine, own, answers, left, belongs-keeps, met-own, isolation}
+use Rattle.isolation.specs.View.{Bridge, lengthsOf, Public, Written, View, agreed, viewed}
+use Rattle.isolation.specs.Isolation.{machine, own, answers, left, belongs-keeps, met-own, run-agrees, isolation}
 
 view-refl : (G : PeNumber → Bool) (a : Bridge) → View G a a
-view-refl G a = record {
-  public = record {
-    sizes = refl;
-    all-lengths = refl;
-    requesters = refl;
-    peers = refl;
-    windows = refl;
-    segments = refl;
-    interrupt-pe = λ i h. refl;
-  };
-  written = record { stop-bits = λ p g. refl; reason = λ p g. refl; value = λ p g. refl; interrupts = λ i h g. refl };
-  entries = λ p g h b. refl;
-  table-words = λ k r. refl;
-}
+view-refl G a = viewed (record { tables = alike-refl (a .tables); live = same-refl (a .live); memory = held-refl (a .memory) })
 
 pub one-bridge : (G : PeNumber → Bool) (a : Bridge) → Closed G (a .tables) → (l k : List Request) → own G a l ≡ own G a k
     → (answers G a l ≡ answers G a k) × Written G (a .tables .sizes .interrupts) (left a l) (left a k)
@@ -49,6 +38,15 @@ pub as-if-alone : (G : PeNumber → Bool) (a : Bridge) → Closed G (a .tables) 
 as-if-alone G a c l =
     let alone = one-bridge G a c l (own G a l) (sym (chosen-twice (belongs G (a .tables) (a .live)) l)) in
     (alone .0 ∙ seen-chosen (machine G (a .tables) (a .memory)) (belongs-keeps G (a .tables) (a .memory)) (a .live) l, alone .1)
+
+-- the bridge after a list
+abbrev pub ran : Bridge → List Request → Bridge
+ran a l = record { tables = a .tables; memory = a .memory; live = left a l }
+
+pub view-after : (G : PeNumber → Bool) (a b : Bridge) → Closed G (a .tables) → View G a b → (l k : List Request) → own G a l ≡ own G b k
+    → View G (ran a l) (ran b k)
+view-after G a b c v l k e =
+    let r = agreed v in viewed (record { tables = r .tables; live = run-agrees c r l k e .1; memory = r .memory })
 
 pub isolated-met : (G : PeNumber → Bool) (a b : Bridge) → Closed G (a .tables) → View G a b → (l k : List Request)
     → mine (machine G (a .tables) (a .memory)) (a .live) l ≡ mine (machine G (b .tables) (b .memory)) (b .live) k

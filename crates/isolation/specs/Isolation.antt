@@ -5,6 +5,8 @@
 --     left a l            state and interrupts after the list
 --     Isolation           THE CLAIM, as a type that a promise can cite
 --     isolation           THE THEOREM
+--     laws                the laws of one request are laws of two machines
+--     run-agrees          two lists, in the relations of those laws
 --     met-own             the own requests by the start are those by the state that each meets: no request changes what belongs to whom
 -- Assumes nothing.
 use mathlib.Core.Path.{_≡_, sym, ap, _∙_}
@@ -20,7 +22,7 @@ use Rattle.profile.specs.Agree.{owned, belongs, Closed, Same, Alike, Held}
 use Rattle.profile.specs.AgreeLaws.{same-sym, same-trans}
 use Rattle.profile.specs.RequestLaws.{vector-agrees, owner-keeps, answered-agrees, after-agrees, after-unseen}
 use Rattle.isolation.specs.Unwind.{Machine, Laws, mine, seen, end, chosen, mine-chosen, unwound-same}
-use Rattle.isolation.specs.View.{Bridge, Written, View, agreed, written}
+use Rattle.isolation.specs.View.{Bridge, Written, View, Agreed, agreed, written}
 
 abbrev pub machine : (PeNumber → Bool) → Tables → List ℕ → Machine Live Request Answer
 machine G f m = record { next = after f m; answer = answered f m; own = belongs G f }
@@ -66,10 +68,10 @@ laws {f = f} {g = g} {m = m} {n = n} c w h = record {
 pub met-own : (G : PeNumber → Bool) (a : Bridge) (l : List Request) → mine (machine G (a .tables) (a .memory)) (a .live) l ≡ own G a l
 met-own G a l = mine-chosen (machine G (a .tables) (a .memory)) (belongs-keeps G (a .tables) (a .memory)) (a .live) l
 
+pub run-agrees : {G : PeNumber → Bool} {a b : Bridge} → Closed G (a .tables) → Agreed G a b → (l k : List Request) → own G a l ≡ own G b k
+    → (answers G a l ≡ answers G b k) × Same G (a .tables .sizes .interrupts) (left a l) (left b k)
+run-agrees {G} {a} {b} c r l k e =
+    unwound-same (laws c (r .tables) (r .memory)) (a .live) (b .live) (r .live) l k (met-own G a l ∙ e ∙ sym (met-own G b k))
+
 pub isolation : Isolation
-isolation = record {
-  isolated = λ G a b c v l k e.
-      let r = agreed v in
-      let both = unwound-same (laws c (r .tables) (r .memory)) (a .live) (b .live) (r .live) l k (met-own G a l ∙ e ∙ sym (met-own G b k)) in
-      (both .0, written (both .1));
-}
+isolation = record { isolated = λ G a b c v l k e. let both = run-agrees c (agreed v) l k e in (both .0, written (both .1)) }

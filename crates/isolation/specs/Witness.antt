@@ -5,7 +5,7 @@
 --     outside-is          all private words of PEs 0 and 3 and the memory beyond the group's tables are x; own-stops: so are the upper bits of
 --                         the group's stop words. Where x is not y, each of them differs
 --     list-answers, other-answers     what each request of the two lists is answered: others freeze, are released and are refused
---     group-answers       what the group is answered: not only refusals
+--     group-answers       what the group is answered: not only refusals; group-left: what is left to it
 --     witness             THE CLAIM at these two bridges and lists
 -- Assumes nothing.
 use mathlib.Core.Path.{_≡_, refl, sym, _∙_}
@@ -248,6 +248,12 @@ group-answers : answers group (bridge 1) list ≡
     pass 0x9010 2 2 ∷ pass 0x1000000 1 0 ∷ Msi 1 5 6 ∷ Refuse BadRequest 0 ∷ Refuse TableWord 1 ∷ Ones 0xFFFFFFFF ∷ Done ∷ Done ∷ []
 unfolding opened-bridges pass
 group-answers = refl
+
+-- and what is left to it: the words of PEs 1 and 2 in the state, and their interrupts
+group-left : map (at (left (bridge 1) list .state)) (places 3 6) ++ map (at (left (bridge 1) list .interrupts)) (places 4 8) ≡
+    4 ∷ 0 ∷ 0 ∷ 6 ∷ 8 ∷ 0x800000 ∷ 1 ∷ 5 ∷ 6 ∷ 2 ∷ 2 ∷ 7 ∷ 8 ∷ 0 ∷ []
+unfolding opened-bridges places
+group-left = refl
 
 pub witness : (answers group (bridge 1) list ≡ answers group (bridge 2) other) × Written group 4 (left (bridge 1) list) (left (bridge 2) other)
 unfolding tables

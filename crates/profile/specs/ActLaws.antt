@@ -43,8 +43,8 @@ pe-kept : (i j v k : ℕ) → 0 < j → j < interruptWords → (s : Live) → in
 pe-kept i j v k lo hi s = rw (at-set, ne-eqb (k * interruptWords) (i * interruptWords + j) (omega arith))
 
 module _ {G : PeNumber → Bool} {n : ℕ} where
-  state-unseen : (j v : ℕ) → G (peOf j) ≡ false → (s : Live) → Same G n s (stateStored j v s)
-  state-unseen j v out s = record {
+  stateStored-unseen : (j v : ℕ) → G (peOf j) ≡ false → (s : Live) → Same G n s (stateStored j v s)
+  stateStored-unseen j v out s = record {
     state-length = sym (length-set (s .state) j v);
     interrupts-length = refl;
     state-word = λ i g. rw (at-set, ne-eqb i j (λ e. clash g (rw e out)));
@@ -53,9 +53,9 @@ module _ {G : PeNumber → Bool} {n : ℕ} where
   }
 
   -- into an interrupt that is none of the n, or not the group's
-  interrupt-unseen : (i j v : ℕ) → 0 < j → j < interruptWords → (s : Live) → (i < n → G (interruptPe s i) ≡ false)
+  interruptStored-unseen : (i j v : ℕ) → 0 < j → j < interruptWords → (s : Live) → (i < n → G (interruptPe s i) ≡ false)
       → Same G n s (interruptStored i j v s)
-  interrupt-unseen i j v lo hi s out = record {
+  interruptStored-unseen i j v lo hi s out = record {
     state-length = refl;
     interrupts-length = sym (length-set (s .interrupts) (i * interruptWords + j) v);
     state-word = λ k g. refl;
@@ -64,8 +64,8 @@ module _ {G : PeNumber → Bool} {n : ℕ} where
         rw (at-set, ne-eqb (k * interruptWords + l) (i * interruptWords + j) (λ e. clash g (let z : k ≡ i = omega arith in rw z (out (rw z at h)))));
   }
 
-  state-agrees : {s t : Live} → Same G n s t → (j v w : ℕ) → seenWord j v ≡ seenWord j w → Same G n (stateStored j v s) (stateStored j w t)
-  state-agrees {s} {t} r j v w e = record {
+  stateStored-agrees : {s t : Live} → Same G n s t → (j v w : ℕ) → seenWord j v ≡ seenWord j w → Same G n (stateStored j v s) (stateStored j w t)
+  stateStored-agrees {s} {t} r j v w e = record {
     state-length = simp length-set (r .state-length);
     interrupts-length = r .interrupts-length;
     state-word = λ i g. simp (at-set, r .state-length)
@@ -76,8 +76,8 @@ module _ {G : PeNumber → Bool} {n : ℕ} where
     interrupt-word = r .interrupt-word;
   }
 
-  interrupt-agrees : {s t : Live} → Same G n s t → (i j v : ℕ) → 0 < j → j < interruptWords → Same G n (interruptStored i j v s) (interruptStored i j v t)
-  interrupt-agrees {s} {t} r i j v lo hi = record {
+  interruptStored-agrees : {s t : Live} → Same G n s t → (i j v : ℕ) → 0 < j → j < interruptWords → Same G n (interruptStored i j v s) (interruptStored i j v t)
+  interruptStored-agrees {s} {t} r i j v lo hi = record {
     state-length = r .state-length;
     interrupts-length = simp length-set (r .interrupts-length);
     state-word = r .state-word;
@@ -92,12 +92,12 @@ module _ {G : PeNumber → Bool} {n : ℕ} where
   -- the two words that an effect of an interrupt writes
   written-unseen : (i v b : ℕ) (s : Live) → (i < n → G (interruptPe s i) ≡ false) → Same G n s (interruptStored i 3 b (interruptStored i 2 v s))
   written-unseen i v b s out =
-      same-trans (interrupt-unseen i 2 v (omega arith) (omega arith) s out)
-      (interrupt-unseen i 3 b (omega arith) (omega arith) (interruptStored i 2 v s) (λ h. rw (pe-kept i 2 v i (omega arith) (omega arith) s) (out h)))
+      same-trans (interruptStored-unseen i 2 v (omega arith) (omega arith) s out)
+      (interruptStored-unseen i 3 b (omega arith) (omega arith) (interruptStored i 2 v s) (λ h. rw (pe-kept i 2 v i (omega arith) (omega arith) s) (out h)))
 
   written-agrees : {s t : Live} → Same G n s t → (i v b : ℕ)
       → Same G n (interruptStored i 3 b (interruptStored i 2 v s)) (interruptStored i 3 b (interruptStored i 2 v t))
-  written-agrees r i v b = interrupt-agrees (interrupt-agrees r i 2 v (omega arith) (omega arith)) i 3 b (omega arith) (omega arith)
+  written-agrees r i v b = interruptStored-agrees (interruptStored-agrees r i 2 v (omega arith) (omega arith)) i 3 b (omega arith) (omega arith)
 
 -- ---- an effect at a PE outside
 
@@ -125,12 +125,12 @@ module _ {G : PeNumber → Bool} (f : Tables) (p : PeNumber) (out : G p ≡ fals
 
     released-unseen : (c : Part) → Same G n s (record { state = released c p (s .state); interrupts = s .interrupts })
     unfolding released
-    released-unseen Mmio = state-unseen (stopWord p) (at (s .state) (stopWord p) / 2 * 2) (own-word (stopWord p) (omega arith)) s
+    released-unseen Mmio = stateStored-unseen (stopWord p) (at (s .state) (stopWord p) / 2 * 2) (own-word (stopWord p) (omega arith)) s
     released-unseen Dma =
-        state-unseen (stopWord p) (at (s .state) (stopWord p) / 4 * 4 + at (s .state) (stopWord p) % 2) (own-word (stopWord p) (omega arith)) s
+        stateStored-unseen (stopWord p) (at (s .state) (stopWord p) / 4 * 4 + at (s .state) (stopWord p) % 2) (own-word (stopWord p) (omega arith)) s
     released-unseen Record =
-        same-trans (state-unseen (reasonWord p) 0 (own-word (reasonWord p) (omega arith)) s)
-        (state-unseen (valueWord p) 0 (own-word (valueWord p) (omega arith)) (stateStored (reasonWord p) 0 s))
+        same-trans (stateStored-unseen (reasonWord p) 0 (own-word (reasonWord p) (omega arith)) s)
+        (stateStored-unseen (valueWord p) 0 (own-word (valueWord p) (omega arith)) (stateStored (reasonWord p) 0 s))
 
     pub act-unseen : (e : Effect) → Same G n s (act f p e s)
     unfolding act
@@ -177,12 +177,12 @@ module _ {G : PeNumber → Bool} {n : ℕ} {s t : Live} (r : Same G n s t) where
       → Same G n (record { state = released c p (s .state); interrupts = s .interrupts }) (record { state = released c p (t .state); interrupts = t .interrupts })
   unfolding released
   released-agrees Mmio p u =
-      state-agrees r (stopWord p) (at (s .state) (stopWord p) / 2 * 2) (at (t .state) (stopWord p) / 2 * 2)
+      stateStored-agrees r (stopWord p) (at (s .state) (stopWord p) / 2 * 2) (at (t .state) (stopWord p) / 2 * 2)
       (rw (eq-eqb (stopWord p % stateWords) 0 (omega arith)) (omega (arith, stop-agrees r p u)))
   released-agrees Dma p u =
-      state-agrees r (stopWord p) (at (s .state) (stopWord p) / 4 * 4 + at (s .state) (stopWord p) % 2) (at (t .state) (stopWord p) / 4 * 4 + at (t .state) (stopWord p) % 2)
+      stateStored-agrees r (stopWord p) (at (s .state) (stopWord p) / 4 * 4 + at (s .state) (stopWord p) % 2) (at (t .state) (stopWord p) / 4 * 4 + at (t .state) (stopWord p) % 2)
       (rw (eq-eqb (stopWord p % stateWords) 0 (omega arith)) (omega (arith, stop-agrees r p u)))
-  released-agrees Record p u = state-agrees (state-agrees r (reasonWord p) 0 0 refl) (valueWord p) 0 0 refl
+  released-agrees Record p u = stateStored-agrees (stateStored-agrees r (reasonWord p) 0 0 refl) (valueWord p) 0 0 refl
 
   -- an interrupt's PE is not public from n on, and what is written there is not seen
   interrupt-written : (f : Tables) (p : PeNumber) (i v b : ℕ) → Same G n (act f p (Interrupt i v b) s) (act f p (Interrupt i v b) t)

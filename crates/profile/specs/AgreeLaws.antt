@@ -1,10 +1,10 @@
 -- The relations of `Agree` are equivalences, and what they give of an entry, of a walk, of the words of a member.
---     same-refl, same-sym, same-trans     so a request that the group does not see may stand on either side
+--     same-refl, same-sym, same-trans     so a request that the group does not see may stand on either side; alike-refl
 --     stop-agrees, reason-agrees  the stop bits and the reason of a member
 --     interrupt-agrees    the record of an interrupt of a member
 --     entry-agrees        the translation entries of a member
 --     walk-agrees         a member's walk is the same over both memories; reads-agrees: so it reads the same places
---     held-sym, held-trans        `Held` is an equivalence too: its premise on the words of the first memory is none on the second's
+--     held-refl, held-sym, held-trans     `Held` is an equivalence too: its premise on the words of the first memory is none on the second's
 -- Assumes nothing.
 use mathlib.Core.Path.{_≡_, refl, sym, _∙_}
 use mathlib.Core.Bool.{Bool, true}
@@ -72,6 +72,17 @@ module _ {G : PeNumber → Bool} {n : ℕ} where
           r .interrupt-word i h g 2 (omega arith),
           r .interrupt-word i h g 3 (omega arith),
         )
+
+pub alike-refl : {G : PeNumber → Bool} (f : Tables) → Alike G f f
+alike-refl f = record {
+  sizes = refl;
+  requesters = refl;
+  peers = refl;
+  windows = refl;
+  segments = refl;
+  entries-length = refl;
+  entry-word = λ p u j h. refl;
+}
 
 module _ {G : PeNumber → Bool} {f g : Tables} (w : Alike G f g) where
   pub entry-agrees : (p : PeNumber) → G p ≡ true → (h : ℕ) → h < 2 → entry f p h ≡ entry g p h
