@@ -4,7 +4,7 @@
 --     at-turned           a turn freezes the words of its PE, and no others
 --     turns-is            turns for all PEs of the state are the freeze
 -- Assumes nothing.
-use mathlib.Core.Path.{_≡_, _∙_}
+use mathlib.Core.Path.{_≡_, refl}
 use mathlib.Core.Bool.{Bool, true, false, cond, _&&_}
 use mathlib.Core.List.{List}
 use Prim.Native.Nat.{ℕ, _+_, _*_, _/_, _%_, _≤_}
@@ -12,13 +12,24 @@ use native.Mathlib.Omega.{arith}
 use lib.Dec.{ltb, eqb}
 use lib.ListN.{length, length-set}
 use borrow.Author.Tests.{eqb-true, eqb-false}
+use Rattle.kinds.specs.Answer.{reasonNumber}
 use Rattle.kinds.specs.Tests.{by-cases, and-left}
 use Rattle.kinds.specs.Turns.{turns, at-place, at-first, turns-mapAt}
 use Rattle.kinds.specs.Words.{at, bitOf}
+use Rattle.kinds.specs.declared.answer.Reason.the-variants.{FrozenAsPeer}
 use Rattle.kinds.specs.declared.number.PeNumber.{PeNumber}
 use Rattle.profile.specs.Freeze.{marked, frozen, froze}
 use Rattle.profile.specs.Tables.{stateWords}
 use Rattle.endpoints.specs.Turn.{stopped, turned, freezeTurn}
+
+-- a word of one state or of another
+at-either : (b : Bool) (l m : List ℕ) (i : ℕ) → at (cond b l m) i ≡ cond b (at l i) (at m i)
+at-either true l m i = refl
+at-either false l m i = refl
+
+either-same : (b : Bool) (x : ℕ) → cond b x x ≡ x
+either-same true x = refl
+either-same false x = refl
 
 module _ (l : List ℕ) (k : ℕ) where
   -- word i is a word of PE k, or not
@@ -62,13 +73,10 @@ module _ (w : List ℕ) (p : PeNumber) (r v : ℕ) where
   at-turned : (l : List ℕ) (k i : ℕ) → at (freezeTurn w p r v l k) i ≡ cond (owned l k i) (frozen w p r v l i (at l i)) (at l i)
   unfolding turned frozen
   at-turned l k i =
-      by-cases (owned l k i)
-      (λ g. rw (g, eqb-true (i / stateWords) k (and-left _ _ g))
-      (by-cases (eqb k (p .0)) (λ o. rw o (at-stopped l k r v i ∙ rw g))
-      (λ o. rw o (by-cases (bitOf w k) (λ q. rw q (at-stopped l k _ _ i ∙ rw g)) (λ q. rw q)))))
-      (λ g. rw g
-      (by-cases (eqb k (p .0)) (λ o. rw o (at-stopped l k r v i ∙ rw g))
-      (λ o. rw o (by-cases (bitOf w k) (λ q. rw q (at-stopped l k _ _ i ∙ rw g)) (λ q. rw q)))))
+      rw (at-either (eqb k (p .0)), at-either (bitOf w k), at-stopped l k r v i, at-stopped l k (reasonNumber FrozenAsPeer) (p .0) i)
+      (by-cases (owned l k i)
+      (λ g. rw (g, eqb-true (i / stateWords) k (and-left _ _ g)))
+      (λ g. rw (g, either-same, either-same)))
 
   frozen-reads : (l m : List ℕ) (i x : ℕ) → ((j : ℕ) → j / stateWords ≡ i / stateWords → at l j ≡ at m j) → frozen w p r v l i x ≡ frozen w p r v m i x
   unfolding frozen
