@@ -1,6 +1,6 @@
 -- The parts of reason 1.
 --     limited-pes ..      what the limits say of N and of M
---     sized-is            reason 1 is the parts together
+--     sized-is            reason 1 is the parts together; sized-pes: so N is within its limit
 -- Assumes nothing.
 use mathlib.Core.Path.{_≡_}
 use mathlib.Core.Bool.{true, _&&_}
@@ -27,3 +27,6 @@ limited-interrupts z o = leb-true (z .interrupts) mostInterrupts (and-right (leb
 pub sized-is : (z : Sizes) (l : Lengths) → sized z l ≡ (limited z && dmaTables z l && otherTables z l)
 unfolding sized limited dmaTables otherTables
 sized-is z l = by-cases (limited z) (λ o. rw o (by-cases (dmaTables z l) (λ p. rw p) (λ p. rw p))) (λ o. rw o)
+
+pub sized-pes : (z : Sizes) (l : Lengths) → sized z l ≡ true → z .pes ≤ mostPes
+sized-pes z l o = limited-pes z (and-left (limited z) (dmaTables z l) (and-left (limited z && dmaTables z l) (otherTables z l) (rw (sized-is z l) at o)))
