@@ -1,0 +1,12 @@
+use Rattle.windows.proofs.Powers as powers
+use Rattle.windows.proofs.is_multiple.Statement.{statement}
+use Rattle.windows.proofs.is_multiple.Tie as tie
+
+sub-result : tie.Need-sub-result
+sub-result c = search powers.size-some
+
+returns : tie.Need-returns
+returns c = search powers.multiple-is
+
+pub is-multiple-spec : {M : Type 1} → statement M
+is-multiple-spec = tie.close (tie.spec sub-result returns)
