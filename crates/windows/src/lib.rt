@@ -7,7 +7,7 @@ use kinds::record::Window;
 use kinds::words;
 ghost use mathlib.Core.Path.{_≡_};
 ghost use mathlib.Core.Bool.{true, cond};
-ghost use Prim.Native.Nat.{_+_, _-_, _*_, _%_, _^_, _<_, _≤_, min};
+ghost use Prim.Native.Nat.{_+_, _-_, _%_, _<_, _≤_, min};
 ghost use lib.Dec.{eqb, ltb};
 ghost use Rattle.kinds.specs.declared.answer.Answer.the-variants.{Pass};
 ghost use Rattle.kinds.specs.declared.lookup.Hit.the-variants.{At};
