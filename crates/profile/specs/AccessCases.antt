@@ -35,7 +35,7 @@ on w = windowed w segments
 abbrev pub one : Tables
 one = on (m64 0 0x40000000 0x10000000 1 2 closed)
 
--- a load and a store refused alike, with nothing changed; a load of one byte that passes, and one that no window takes
+-- a load of one byte that passes, and one that no window takes
 abbrev pub found : (windows : List ℕ) → (a to pe : ℕ) → Case
 found w a b p = keeps (on w) empty idle (load a 1) (pass b p 0)
 
@@ -146,7 +146,7 @@ m64Cases =
     ∷ lost (m64 0 0x48000000 0x10000000 1 2 closed) 0x48000000
     ∷ []
 
--- n M64 windows from number k, that all cover 0x40000000, each PE k's
+-- n M64 windows from number k, which all cover 0x40000000, each of the PE with its number
 unfoldable pub openFrom : (n k : ℕ) → List ℕ
 openFrom zero k = closed
 openFrom (suc n) k = m64 k 0x40000000 0x10000000 1 k (openFrom n (k + 1))
@@ -155,14 +155,14 @@ openFrom (suc n) k = m64 k 0x40000000 0x10000000 1 k (openFrom n (k + 1))
 abbrev pub from : (k : ℕ) → Case
 from k = keeps (wide 16 (replicate 64 0) (openFrom (16 - k) k) segments) empty (quiet 16) (load 0x40000000 4) (pass 0x40000000 k 0)
 
--- window 0 is closed for what it says, or away; window 1 is PE 3's
+-- window 0 is closed, or covers other addresses; window 1 is PE 3's and takes the load
 abbrev pub over : (base size mode : ℕ) → Case
 over b n m = found (m64 0 b n m 2 (m64 1 0x40000000 0x10000000 1 3 closed)) 0x40000000 0x40000000 3
 
 unfoldable pub firstWindow : List Case
 unfolding openFrom
 firstWindow =
-    -- M32 before M64, which both cover the address; M64 after an M32 that is closed, or away
+    -- M32 before M64, which both cover the address; M64 after an M32 that is closed, or covers other addresses
     found (m64 0 0x100000000 0x10000000 1 3 m32I) 0x100100010 0x80100010 1
     ∷ found (m64 0 0x100000000 0x10000000 1 3 (m32 0x100000000 0x10000000 1)) 0x100100010 0x100100010 3
     ∷ found (m64 0 0x40000000 0x10000000 1 3 m32I) 0x40000000 0x40000000 3

@@ -13,7 +13,7 @@ use Rattle.kinds.specs.declared.answer.Reason.the-variants.{TableLength, BadReq
 use Rattle.profile.specs.Tables.{Tables}
 use Rattle.profile.specs.Case.{Case, entered, none, plain, short, idle, endpoint, states, stopped, empty, words, read, write, pass, keeps, refuses, freezes}
 
--- PE 2's two records; the same with a first record alone
+-- PE 2's first record, with no second one; its second, with no first one
 abbrev pub first : (base levels table page : ℕ) → Tables
 first b l t p = entered (b ∷ l ∷ t ∷ p ∷ []) none
 

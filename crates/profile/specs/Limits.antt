@@ -4,6 +4,7 @@
 --     asked q             a row of `formed`
 --     sizes, lengths      the numbers N, M, R and the words of memory, with lengths that agree; each length one less and one more
 --     forms               lengths of a DMA, widths of a load and a store, priorities
+--     limits              all of them
 --     limits-hold         THE STATEMENT: each test gives what its row says
 -- Assumes nothing.
 use mathlib.Core.Path.{_≡_, refl}
