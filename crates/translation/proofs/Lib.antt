@@ -1,6 +1,6 @@
-mod AskLaws
-mod DmaLaws
-mod EntryLaws
-mod ShapeLaws
-mod TurnLaws
-mod WalkLaws
+mod EntryNeeds
+mod ShapeNeeds
+mod AskNeeds
+mod DmaNeeds
+mod TurnNeeds
+mod WalkNeeds

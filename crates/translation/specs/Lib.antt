@@ -1,2 +1,4 @@
 pub mod Ask
+pub mod AskLaws
 pub mod Turn
+pub mod TurnLaws

@@ -1,6 +1,9 @@
 // What a DMA comes to by a translation entry.
 ghost use mathlib.Core.Path.{_≡_};
 ghost use Rattle.kinds.specs.declared.lookup.Found.the-variants.{Frame};
+ghost use Rattle.translation.specs.Ask.{finished};
+ghost use Rattle.translation.specs.Turn.{Shaped};
+ghost use Rattle.translation.specs.declared.ask.Asked.the-variants.{Walk};
 ghost use Rattle.profile.specs.Walk.{allows, arriveAt, translated};
 use crate::ask::Asked;
 use crate::ask::ask;
@@ -29,14 +32,30 @@ pub fn translate(
 ) -> Outcome
     ensures { λ r. ⌜ r ≡ translated (now (memory .entry)) entry pe direction address ⌝ }
 {
-    match ask(pe, entry, address) {
-        Asked::Ready(outcome) => outcome,
-        Asked::Walk { size, page } => {
-            let walked = walk(memory, entry, page);
-            let found = walked.found;
-            arrive(size, direction, pe, address, found, walked.words)
-        }
+    match ask(entry, address) {
+        Asked::Walk(size) => finish(memory, entry, size, pe, direction, address),
+        Asked::Bypass => passed(pe, offset_of(address), 0),
+        Asked::BadEntry => failed(Reason::BadEntry, address, 0),
+        Asked::OutsideWindow => failed(Reason::OutsideWindow, address, 0),
     }
+}
+
+// By the walk of its page: the only reader of memory.
+fn finish(
+    memory: &[u64],
+    entry: TranslationEntry,
+    size: PageSize,
+    pe: PeNumber,
+    direction: Direction,
+    address: ByteAddress,
+) -> Outcome
+    requires { ⌜ Shaped entry ⌝ }
+    ensures { λ r. ⌜ r ≡ finished (now (memory .entry)) entry pe direction address (Walk size) ⌝ }
+{
+    let page = page_number(size, offset_of(address));
+    let walked = walk(memory, entry, page);
+    let found = walked.found;
+    arrive(size, direction, pe, address, found, walked.words)
 }
 
 // By what a walk found, with no memory lent.

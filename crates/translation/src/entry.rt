@@ -53,12 +53,11 @@ fn half_of(address: ByteAddress) -> usize
 pub fn entry_of(entries: &[u64], pe: PeNumber, address: ByteAddress) -> TranslationEntry
     ensures { λ r. ⌜ r ≡ entryIn (now (entries .entry)) pe (half address) ⌝ }
 {
-    let first = pe.0 as usize * ENTRY_WORDS;
-    let start = half_of(address) * RECORD_WORDS;
+    let first = pe.0 as usize * ENTRY_WORDS + half_of(address) * RECORD_WORDS;
     TranslationEntry {
-        base: word(entries, first + start),
-        levels: word(entries, first + (start + 1)),
-        table: word(entries, first + (start + 2)),
-        page: word(entries, first + (start + 3)),
+        base: word(entries, first),
+        levels: word(entries, first + 1),
+        table: word(entries, first + 2),
+        page: word(entries, first + 3),
     }
 }

@@ -2,23 +2,23 @@
 ghost use mathlib.Core.Path.{_≡_};
 ghost use Prim.Native.Nat.{_*_, _<_, _≤_};
 ghost use Rattle.profile.specs.Entry.{aligned};
-ghost use Rattle.profile.specs.Walk.{nextBase, walk};
-ghost use Rattle.translation.specs.Turn.{placeAt, next, counted, Shaped};
+ghost use Rattle.profile.specs.Walk.{place, nextBase, walk};
+ghost use Rattle.translation.specs.Turn.{next, stepped, counted, Shaped};
 use kinds::lookup::Found;
 use kinds::number::ByteAddress;
 use kinds::number::PageNumber;
 use kinds::record::TranslationEntry;
 
-// What a table word comes to: the base of the next table, or the end of the walk.
-pub(crate) enum Next {
-    Table(ByteAddress),
-    End(Found),
-}
-
 // What a walk found, and the count of words that it read.
 pub(crate) struct Walked {
     pub found: Found,
     pub words: u64,
+}
+
+// What one level of a walk comes to: the base of the next table, or the end, with the words that it read.
+pub(crate) enum Next {
+    Table(ByteAddress),
+    End(Walked),
 }
 
 // Whether a base is a multiple of the bytes of a table of 2^bits words.
@@ -29,11 +29,12 @@ pub(crate) fn aligned(bits: u64, base: ByteAddress) -> bool
     base.0 & ((8u64 << bits) - 1) == 0
 }
 
-// The number of the memory word that a page has in the table at `base`, whose index starts at bit `shift` of the page number.
-fn place(base: ByteAddress, page: PageNumber, shift: u64, bits: u64) -> usize
-    requires { ⌜ (shift < 64) × (bits ≤ 39) ⌝ }
-    ensures { λ r. ⌜ r ≡ placeAt base page shift bits ⌝ }
+// The number of the memory word that a page has in the table at `base`, with `below` levels below it.
+fn place(below: u64, bits: u64, base: ByteAddress, page: PageNumber) -> usize
+    requires { ⌜ (bits ≤ 39) × (bits * below < 64) ⌝ }
+    ensures { λ r. ⌜ r ≡ place below bits base page ⌝ }
 {
+    let shift = bits * below;
     ((base.0 >> 3) + ((page.0 >> shift) & ((1u64 << bits) - 1))) as usize
 }
 
@@ -50,16 +51,40 @@ fn turn(below: u64, bits: u64, place: u64, word: u64) -> Next
     ensures { λ r. ⌜ r ≡ next below bits place word ⌝ }
 {
     if below == 0 {
-        return Next::End(Found::Frame { word });
+        return Next::End(Walked {
+            found: Found::Frame { word },
+            words: 1,
+        });
     }
     if word % 4 == 0 {
-        return Next::End(Found::Forbidden { place });
+        return Next::End(Walked {
+            found: Found::Forbidden { place },
+            words: 1,
+        });
     }
     let base = next_base(word);
     if aligned(bits, base) {
         return Next::Table(base);
     }
-    Next::End(Found::Forbidden { place })
+    Next::End(Walked {
+        found: Found::Forbidden { place },
+        words: 1,
+    })
+}
+
+// One level of the walk, with `below` levels below it.
+fn step(memory: &[u64], below: u64, bits: u64, base: ByteAddress, page: PageNumber) -> Next
+    requires { ⌜ (bits ≤ 39) × (bits * below < 64) ⌝ }
+    ensures { λ r. ⌜ r ≡ stepped (now (memory .entry)) below bits base page ⌝ }
+{
+    let at = place(below, bits, base, page);
+    if memory.len() <= at {
+        return Next::End(Walked {
+            found: Found::Outside { place: at as u64 },
+            words: 0,
+        });
+    }
+    turn(below, bits, at as u64, memory[at])
 }
 
 // The walk of a page by an entry.
@@ -69,26 +94,21 @@ pub(crate) fn walk(memory: &[u64], entry: TranslationEntry, page: PageNumber) ->
 {
     let bits = entry.table + 8;
     let mut base = ByteAddress(entry.base);
-    let mut left = entry.levels;
-    let mut shift = bits * left;
+    let mut below = entry.levels;
     let mut words: u64 = 0;
-    while 0 < left {
-        left -= 1;
-        shift -= bits;
-        let at = place(base, page, shift, bits);
-        if memory.len() <= at {
-            return Walked {
-                found: Found::Outside { place: at as u64 },
-                words,
-            };
-        }
-        words += 1;
-        match turn(left, bits, at as u64, memory[at]) {
+    while 0 < below {
+        below -= 1;
+        match step(memory, below, bits, base, page) {
             Next::Table(lower) => {
                 base = lower;
+                words += 1;
             }
-            Next::End(found) => {
-                return Walked { found, words };
+            Next::End(here) => {
+                let found = here.found;
+                return Walked {
+                    found,
+                    words: words + here.words,
+                };
             }
         }
     }

@@ -1,4 +1,4 @@
-use Rattle.translation.proofs.AskLaws as laws
+use Rattle.translation.proofs.AskNeeds as laws
 use borrow.Author.Needs.{needs}
 use Rattle.translation.proofs.ask.ask_pages.Statement.{statement}
 use Rattle.translation.proofs.ask.ask_pages.Tie as tie
@@ -12,26 +12,17 @@ enum-known-size c = search needs
 enum-told : tie.Need-enum-told
 enum-told c = search needs
 
-bad-entry-requires : tie.Need-bad-entry-requires
-bad-entry-requires c κs = search needs
-
 returns : tie.Need-returns
 returns c = search laws.bad-shape
-
-offset-of-requires : tie.Need-offset-of-requires
-offset-of-requires c κs = search needs
 
 shl-if1 : tie.Need-shl-if1
 shl-if1 c = search laws.span-below
 
-failed-requires : tie.Need-failed-requires
-failed-requires c κs = search needs
+offset-of-requires : tie.Need-offset-of-requires
+offset-of-requires c κs = search needs
 
 returns-2 : tie.Need-returns-2
 returns-2 c = search laws.beyond
-
-page-number-requires : tie.Need-page-number-requires
-page-number-requires c κs = search needs
 
 returns-3 : tie.Need-returns-3
 returns-3 c = search laws.walked
@@ -43,11 +34,8 @@ ask-pages-spec =
     shape-of-requires
     enum-known-size
     enum-told
-    bad-entry-requires
     returns
-    offset-of-requires
     shl-if1
-    failed-requires
+    offset-of-requires
     returns-2
-    page-number-requires
     returns-3)

@@ -1,4 +1,5 @@
-use Rattle.translation.proofs.DmaLaws as laws
+use Rattle.profile.specs.Walk.{allows}
+use Rattle.translation.proofs.DmaNeeds as laws
 use borrow.Author.Needs.{needs}
 use Rattle.translation.proofs.dma.allows.Statement.{statement}
 use Rattle.translation.proofs.dma.allows.Tie as tie
@@ -10,10 +11,12 @@ enum-told-2 : tie.Need-enum-told-2
 enum-told-2 c = search needs
 
 returns : tie.Need-returns
-returns c = search laws.may-read
+unfolding allows
+returns c = search laws.allowed
 
 returns-2 : tie.Need-returns-2
-returns-2 c = search laws.may-write
+unfolding allows
+returns-2 c = search laws.allowed
 
 pub allows-spec : {M : Type 1} → statement M
 allows-spec = tie.close (tie.spec enum-told enum-told-2 returns returns-2)

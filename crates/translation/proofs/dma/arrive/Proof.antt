@@ -1,4 +1,5 @@
-use Rattle.translation.proofs.DmaLaws as laws
+use Rattle.profile.specs.Walk.{arriveAt}
+use Rattle.translation.proofs.DmaNeeds as laws
 use borrow.Author.Needs.{needs}
 use Rattle.translation.proofs.dma.arrive.Statement.{statement}
 use Rattle.translation.proofs.dma.arrive.Tie as tie
@@ -22,13 +23,15 @@ failed-requires-2 : tie.Need-failed-requires-2
 failed-requires-2 c κs = search needs
 
 returns : tie.Need-returns
-returns c = search laws.by-word
+returns c = search laws.found-is
 
 returns-2 : tie.Need-returns-2
-returns-2 c = search laws.by-rights
+unfolding arriveAt
+returns-2 c = search laws.found-is
 
 returns-3 : tie.Need-returns-3
-returns-3 c = search laws.by-place
+unfolding arriveAt
+returns-3 c = search laws.found-is
 
 pub arrive-spec : {M : Type 1} → statement M
 arrive-spec =

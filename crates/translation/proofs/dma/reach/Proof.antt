@@ -1,4 +1,4 @@
-use Rattle.translation.proofs.DmaLaws as laws
+use Rattle.translation.proofs.DmaNeeds as laws
 use borrow.Author.Needs.{needs}
 use Rattle.translation.proofs.dma.reach.Statement.{statement}
 use Rattle.translation.proofs.dma.reach.Tie as tie

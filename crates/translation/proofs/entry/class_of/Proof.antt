@@ -1,4 +1,4 @@
-use Rattle.translation.proofs.EntryLaws as laws
+use Rattle.translation.proofs.EntryNeeds as laws
 use borrow.Author.Needs.{needs}
 use Rattle.translation.proofs.entry.class_of.Statement.{statement}
 use Rattle.translation.proofs.entry.class_of.Tie as tie

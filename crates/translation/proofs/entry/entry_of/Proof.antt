@@ -1,3 +1,4 @@
+use Rattle.translation.proofs.EntryNeeds as laws
 use borrow.Author.Needs.{needs}
 use Rattle.translation.proofs.entry.entry_of.Statement.{statement}
 use Rattle.translation.proofs.entry.entry_of.Tie as tie
@@ -11,44 +12,35 @@ mul-first c = search needs
 half-of-requires : tie.Need-half-of-requires
 half-of-requires c κs = search needs
 
-mul-start : tie.Need-mul-start
-mul-start c = search needs
+mul-first-2 : tie.Need-mul-first-2
+mul-first-2 c = search needs
 
-add-word : tie.Need-add-word
-add-word c = search needs
+add-first : tie.Need-add-first
+add-first c = search needs
 
 word-requires : tie.Need-word-requires
 word-requires c κs = search needs
 
-add-word-2 : tie.Need-add-word-2
-add-word-2 c = search needs
-
-add-word-3 : tie.Need-add-word-3
-add-word-3 c = search needs
+add-word : tie.Need-add-word
+add-word c = search needs
 
 word-requires-2 : tie.Need-word-requires-2
 word-requires-2 c κs = search needs
 
-add-word-4 : tie.Need-add-word-4
-add-word-4 c = search needs
-
-add-word-5 : tie.Need-add-word-5
-add-word-5 c = search needs
+add-word-2 : tie.Need-add-word-2
+add-word-2 c = search needs
 
 word-requires-3 : tie.Need-word-requires-3
 word-requires-3 c κs = search needs
 
-add-word-6 : tie.Need-add-word-6
-add-word-6 c = search needs
-
-add-word-7 : tie.Need-add-word-7
-add-word-7 c = search needs
+add-word-3 : tie.Need-add-word-3
+add-word-3 c = search needs
 
 word-requires-4 : tie.Need-word-requires-4
 word-requires-4 c κs = search needs
 
 returns : tie.Need-returns
-returns c = cc
+returns c = search laws.record-is
 
 pub entry-of-spec : {M : Type 1} → statement M
 entry-of-spec =
@@ -57,16 +49,13 @@ entry-of-spec =
     cast-first
     mul-first
     half-of-requires
-    mul-start
-    add-word
+    mul-first-2
+    add-first
     word-requires
-    add-word-2
-    add-word-3
+    add-word
     word-requires-2
-    add-word-4
-    add-word-5
+    add-word-2
     word-requires-3
-    add-word-6
-    add-word-7
+    add-word-3
     word-requires-4
     returns)

@@ -1,4 +1,4 @@
-use Rattle.translation.proofs.EntryLaws as laws
+use Rattle.translation.proofs.EntryNeeds as laws
 use Rattle.translation.proofs.entry.offset_of.Statement.{statement}
 use Rattle.translation.proofs.entry.offset_of.Tie as tie
 

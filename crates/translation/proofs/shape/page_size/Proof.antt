@@ -1,21 +1,26 @@
-use Rattle.translation.proofs.ShapeLaws as laws
+use Rattle.profile.specs.Entry.{pageSize}
+use Rattle.translation.proofs.ShapeNeeds as laws
 use Rattle.translation.proofs.shape.page_size.Statement.{statement}
 use Rattle.translation.proofs.shape.page_size.Tie as tie
 
 returns : tie.Need-returns
-returns c = search laws.code-1
+unfolding pageSize
+returns c = search laws.coded
 
 returns-2 : tie.Need-returns-2
-returns-2 c = search laws.code-5
+unfolding pageSize
+returns-2 c = search laws.coded
 
 returns-3 : tie.Need-returns-3
-returns-3 c = search laws.code-13
+unfolding pageSize
+returns-3 c = search laws.coded
 
 returns-4 : tie.Need-returns-4
-returns-4 c = search laws.code-17
+unfolding pageSize
+returns-4 c = search laws.coded
 
 returns-5 : tie.Need-returns-5
-returns-5 c = search laws.no-code
+returns-5 c = search laws.uncoded
 
 pub page-size-spec : {M : Type 1} → statement M
 page-size-spec = tie.close (tie.spec returns returns-2 returns-3 returns-4 returns-5)

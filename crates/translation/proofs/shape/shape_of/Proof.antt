@@ -1,4 +1,4 @@
-use Rattle.translation.proofs.ShapeLaws as laws
+use Rattle.translation.proofs.ShapeNeeds as laws
 use borrow.Author.Needs.{needs}
 use Rattle.translation.proofs.shape.shape_of.Statement.{statement}
 use Rattle.translation.proofs.shape.shape_of.Tie as tie

@@ -1,4 +1,4 @@
-use Rattle.translation.proofs.TurnLaws as laws
+use Rattle.translation.proofs.TurnNeeds as laws
 use borrow.Author.Needs.{needs}
 use Rattle.translation.proofs.walk.aligned.Statement.{statement}
 use Rattle.translation.proofs.walk.aligned.Tie as tie

@@ -1,4 +1,4 @@
-use Rattle.translation.proofs.TurnLaws as laws
+use Rattle.translation.proofs.TurnNeeds as laws
 use Rattle.translation.proofs.walk.next_base.Statement.{statement}
 use Rattle.translation.proofs.walk.next_base.Tie as tie
 

@@ -1,7 +1,10 @@
-use Rattle.translation.proofs.TurnLaws as laws
+use Rattle.translation.proofs.TurnNeeds as laws
 use borrow.Author.Needs.{needs}
 use Rattle.translation.proofs.walk.place.Statement.{statement}
 use Rattle.translation.proofs.walk.place.Tie as tie
+
+mul-shift : tie.Need-mul-shift
+mul-shift c = search needs
 
 shr-result : tie.Need-shr-result
 shr-result c = search needs
@@ -19,4 +22,4 @@ returns : tie.Need-returns
 returns c = search laws.placed
 
 pub place-spec : {M : Type 1} → statement M
-place-spec = tie.close (tie.spec shr-result shl-result sub-result add-result returns)
+place-spec = tie.close (tie.spec mul-shift shr-result shl-result sub-result add-result returns)

@@ -1,31 +1,26 @@
 -- What the functions below `walk` are proved from: shifts and masks, and one turn. Assumes nothing.
-use mathlib.Core.Path.{_≡_, refl, sym, ap, _∙_}
+use mathlib.Core.Path.{_≡_, refl, sym, _∙_}
 use mathlib.Core.Bool.{Bool, true, false, cond}
-use mathlib.Core.List.{List}
 use Prim.Native.Nat.{ℕ, zero, suc, _+_, _-_, _*_, _/_, _%_, _^_, _≤_, _<_}
-use native.Mathlib.Nat.{mul-comm}
-use native.Mathlib.Numerals.{sub-one}
 use native.Mathlib.Omega.{arith}
 use mir.Syntax.{w64}
 use mir.Val.{Fits}
 use lib.Bits.{bitAnd, and-mask}
 use lib.Dec.{eqb}
 use lib.ListN.{length}
-use lib.Pow.{pow-pos}
-use borrow.Author.Tests.{lt-ltb, le-ltb, eq-eqb, ne-eqb}
-use Rattle.kinds.specs.Powers.{eight-shl, one-shl-pos, masked, mod-lt-pow, cleared, less-one}
 use Rattle.kinds.specs.Words.{at}
-use Rattle.kinds.specs.declared.lookup.Found.{Found}
+use mathlib.Core.List.{List}
+use lib.Pow.{pow-pos}
+use borrow.Author.Tests.{lt-ltb, le-ltb, ne-eqb}
+use Rattle.kinds.specs.Powers.{eight-shl, one-shl-pos, masked, mod-lt-pow, cleared}
 use Rattle.kinds.specs.declared.lookup.Found.the-variants.{Frame, Forbidden, Outside}
 use Rattle.kinds.specs.declared.number.ByteAddress.{ByteAddress}
 use Rattle.kinds.specs.declared.number.PageNumber.{PageNumber}
 use Rattle.profile.specs.Entry.{aligned}
-use Rattle.profile.specs.Walk.{place, nextBase, leads, turn, walkFrom}
-use Rattle.profile.specs.Walk as definition
-use Rattle.translation.specs.Turn.{placeAt, next, counted}
+use Rattle.profile.specs.Walk.{place, nextBase, leads}
+use Rattle.translation.specs.Turn.{next, stepped}
 use Rattle.translation.specs.declared.walk.Next.{Next}
 use Rattle.translation.specs.declared.walk.Next.the-variants.{Table, End}
-use Rattle.translation.specs.declared.walk.Walked.{Walked}
 
 module _ {n : ℕ} (few : n ≤ 39) where
   pub table-bytes : 1 ≤ 8 * 2 ^ n % 2 ^ 64
@@ -41,36 +36,43 @@ module _ {n : ℕ} (few : n ≤ 39) where
   pub place-fits : (b x : ℕ) → b < 2 ^ 64 → Fits w64 (b / 8 + bitAnd x (1 * 2 ^ n % 2 ^ 64 - 1))
   place-fits b x h = omega (arith, masked x n (omega arith), mod-lt-pow x n 39 few)
 
-  pub placed : (b : ByteAddress) (q : PageNumber) (s : ℕ) → b .0 / 8 + bitAnd (q .0 / 2 ^ s) (1 * 2 ^ n % 2 ^ 64 - 1) ≡ placeAt b q s n
-  placed b q s = rw (masked (q .0 / 2 ^ s) n (omega arith))
+  pub placed : (k : ℕ) (b : ByteAddress) (q : PageNumber) → b .0 / 8 + bitAnd (q .0 / 2 ^ (n * k)) (1 * 2 ^ n % 2 ^ 64 - 1) ≡ place k n b q
+  placed k b q = rw (masked (q .0 / 2 ^ (n * k)) n (omega arith))
 
 pub base-is : (w : ℕ) → w < 2 ^ 64 → _≡_ {A = ByteAddress} (record { 0 = w / 4096 * 4096 % 2 ^ 64 }) (nextBase w)
 base-is w h = rw (cleared w 12 h)
 
--- one turn: the last word
-pub last-word : (k n j w : ℕ) → k ≡ 0 → End (Frame w) ≡ next k n j w
+-- `turn`: the last word
+pub last-word : (k n j w : ℕ) → k ≡ 0 → End (record { found = Frame w; words = 1 }) ≡ next k n j w
 unfolding next
 last-word k n j w z = rw z
 
 -- and an upper word
-upper : (k n j w : ℕ) → (k ≡ 0 → ⊥) → next k n j w ≡ cond (leads n w) (Table (nextBase w)) (End (Forbidden j))
+upper : (k n j w : ℕ) → (k ≡ 0 → ⊥) → next k n j w ≡ cond (leads n w) (Table (nextBase w)) (End (record { found = Forbidden j; words = 1 }))
 unfolding next
 upper zero n j w up = absurd (up refl)
 upper (suc k) n j w up = refl
 
 module _ (k n j w : ℕ) (up : k ≡ 0 → ⊥) where
-  upper-is : next k n j w ≡ cond (leads n w) (Table (nextBase w)) (End (Forbidden j))
-  upper-is = upper k n j w up
-
-  pub no-rights : w % 4 ≡ 0 → End (Forbidden j) ≡ next k n j w
+  pub no-rights : w % 4 ≡ 0 → End (record { found = Forbidden j; words = 1 }) ≡ next k n j w
   unfolding leads
-  no-rights z = sym (upper-is ∙ rw z)
+  no-rights z = sym (upper k n j w up ∙ rw z)
 
   module _ (rights : w % 4 ≡ 0 → ⊥) {b : ByteAddress} (e : b ≡ nextBase w) {ok : Bool} (a : ok ≡ aligned n b) where
     pub leads-on : ok ≡ true → Table b ≡ next k n j w
     unfolding leads
-    leads-on t = sym (upper-is ∙ rw (ne-eqb _ _ rights, ← e, ← a, t))
+    leads-on t = sym (upper k n j w up ∙ rw (ne-eqb _ _ rights, ← e, ← a, t))
 
-    pub misaligned : ok ≡ false → End (Forbidden j) ≡ next k n j w
+    pub misaligned : ok ≡ false → End (record { found = Forbidden j; words = 1 }) ≡ next k n j w
     unfolding leads
-    misaligned t = sym (upper-is ∙ rw (ne-eqb _ _ rights, ← e, ← a, t))
+    misaligned t = sym (upper k n j w up ∙ rw (ne-eqb _ _ rights, ← e, ← a, t))
+
+-- `step`
+module _ (m : List ℕ) (k n : ℕ) (b : ByteAddress) (q : PageNumber) {p : ℕ} (here : p ≡ place k n b q) where
+  pub outside : length m ≤ p → End (record { found = Outside p; words = 0 }) ≡ stepped m k n b q
+  unfolding stepped
+  outside h = rw (← here, le-ltb _ _ h)
+
+  pub read : p < length m → {x : Next} → x ≡ next k n p (at m p) → x ≡ stepped m k n b q
+  unfolding stepped
+  read h f = f ∙ rw (← here, lt-ltb _ _ h)

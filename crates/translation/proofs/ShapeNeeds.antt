@@ -1,31 +1,19 @@
 -- The shape of a page table. Assumes nothing.
-use mathlib.Core.Path.{_≡_, refl, sym, ap, _∙_}
-use mathlib.Core.Bool.{Bool, true, false, cond, _&&_, _||_}
-use Prim.Native.Nat.{ℕ, _+_, _*_, _/_, _%_, _^_, _≤_, _<_}
-use native.Mathlib.Nat.{mul-le-mul, mul-comm}
+use mathlib.Core.Path.{_≡_, refl, _∙_}
+use mathlib.Core.Bool.{Bool, true, false, _&&_}
+use Prim.Native.Nat.{ℕ, _+_, _*_, _≤_, _<_}
+use native.Mathlib.Nat.{mul-le-mul}
 use native.Mathlib.Omega.{arith}
 use mir.Syntax.{w64}
 use mir.Val.{Fits}
-use lib.Dec.{ltb, eqb}
-use borrow.Author.Tests.{lt-ltb, le-ltb, lt-leb, le-leb, eq-eqb, ne-eqb, leb-true}
-use Rattle.kinds.specs.Outcome.{passed, failed}
-use Rattle.kinds.specs.Number.{pageBits, pageNumber}
+use borrow.Author.Tests.{lt-leb, le-leb, ne-eqb}
+use Rattle.kinds.specs.Number.{pageBits}
 use Rattle.kinds.specs.NumberLaws.{bits-most}
-use Rattle.kinds.specs.Powers.{one-shl}
-use Rattle.kinds.specs.Tests.{by-cases, clash, and-left, and-right}
-use Rattle.kinds.specs.declared.answer.Reason.the-variants.{BadEntry, OutsideWindow}
-use Rattle.kinds.specs.declared.number.ByteAddress.{ByteAddress}
-use Rattle.kinds.specs.declared.number.PageNumber.{PageNumber}
+use Rattle.kinds.specs.Tests.{by-cases}
 use Rattle.kinds.specs.declared.number.PageSize.{PageSize}
-use Rattle.kinds.specs.declared.number.PageSize.the-variants.{K4, K64, M16, M256}
-use Rattle.kinds.specs.declared.number.PeNumber.{PeNumber}
-use Rattle.kinds.specs.declared.outcome.Outcome.{Outcome}
 use Rattle.kinds.specs.declared.record.TranslationEntry.{TranslationEntry}
-use Rattle.profile.specs.Entry.{offset, pageSize, pageOf, span, aligned, tableGood, bypassGood, pagesGood, walks, inBypass, unwalked}
+use Rattle.profile.specs.Entry.{pageSize, span, aligned, pagesGood}
 use Rattle.translation.specs.Ask.{known, sizeCode, shapeOf}
-use Rattle.translation.specs.declared.ask.Asked.{Asked}
-use Rattle.translation.specs.declared.ask.Asked.the-variants.{Ready, Walk}
-use Rattle.translation.specs.declared.shape.Shape.{Shape}
 use Rattle.translation.specs.declared.shape.Shape.the-variants.{Pages, Bad}
 use Rattle.translation.specs.declared.shape.SizeCode.{SizeCode}
 use Rattle.translation.specs.declared.shape.SizeCode.the-variants.{Known, Unknown}
@@ -34,26 +22,13 @@ and-false : (b : Bool) → (b && false) ≡ false
 and-false true = refl
 and-false false = refl
 
--- `page_size`
-module _ (e : TranslationEntry) where
-  pub code-1 : e .page ≡ 1 → Known K4 ≡ sizeCode e
-  unfolding pageSize
-  code-1 z = rw z
+-- `page_size`: the size of code n
+pub coded : (e : TranslationEntry) (n : ℕ) {r : SizeCode} → e .page ≡ n → r ≡ sizeCode (record { base = 0; levels = 0; table = 0; page = n }) → r ≡ sizeCode e
+unfolding pageSize
+coded e n z f = f ∙ rw z
 
-  pub code-5 : e .page ≡ 5 → Known K64 ≡ sizeCode e
-  unfolding pageSize
-  code-5 z = rw z
-
-  pub code-13 : e .page ≡ 13 → Known M16 ≡ sizeCode e
-  unfolding pageSize
-  code-13 z = rw z
-
-  pub code-17 : e .page ≡ 17 → Known M256 ≡ sizeCode e
-  unfolding pageSize
-  code-17 z = rw z
-
-  pub no-code : (e .page ≡ 1 → ⊥) → (e .page ≡ 5 → ⊥) → (e .page ≡ 13 → ⊥) → (e .page ≡ 17 → ⊥) → Unknown ≡ sizeCode e
-  no-code n1 n5 n13 n17 = rw (ne-eqb _ 1 n1, ne-eqb _ 5 n5, ne-eqb _ 13 n13, ne-eqb _ 17 n17)
+pub uncoded : (e : TranslationEntry) → (e .page ≡ 1 → ⊥) → (e .page ≡ 5 → ⊥) → (e .page ≡ 13 → ⊥) → (e .page ≡ 17 → ⊥) → Unknown ≡ sizeCode e
+uncoded e n1 n5 n13 n17 = rw (ne-eqb _ 1 n1, ne-eqb _ 5 n5, ne-eqb _ 13 n13, ne-eqb _ 17 n17)
 
 -- `shape_of`: the page code
 module _ (e : TranslationEntry) {c : SizeCode} (asks : c ≡ sizeCode e) where
