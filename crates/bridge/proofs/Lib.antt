@@ -1,0 +1,6 @@
+pub mod DecideLaws
+pub mod HandleLaws
+pub mod Laws
+pub mod OwnerLaws
+pub mod RunLaws
+pub mod SettleLaws

@@ -1,0 +1,82 @@
+-- What the functions of `run` are proved from. Assumes nothing.
+use mathlib.Core.Path.{_≡_, refl, sym, ap, _∙_}
+use mathlib.Core.Bool.{Bool, true, false}
+use mathlib.Core.List.{List}
+use Prim.Native.Nat.{ℕ, _+_, _*_, _/_, _≤_, _<_, min}
+use native.Mathlib.Nat.{min-eq-left, min-eq-right, min-le-left, min-le-right}
+use native.Mathlib.Numerals.{add-one}
+use native.Mathlib.Omega.{arith}
+use lib.ListN.{length}
+use Rattle.kinds.specs.Answer.{numbered}
+use Rattle.kinds.specs.declared.answer.Answer.{Answer}
+use Rattle.kinds.specs.declared.answer.Answer.the-variants.{Refuse}
+use Rattle.kinds.specs.declared.answer.Reason.the-variants.{TableLength, BadRequest}
+use Rattle.kinds.specs.declared.request.Request.{Request}
+use Rattle.kinds.specs.Words.{at}
+use Rattle.isolation.specs.Isolation.{isolation}
+use Rattle.profile.specs.Tables.{Tables, Live, lengths, sized}
+use Rattle.bridge.specs.Layout.{requestWords, answerWords, decoded, decodedAt, stored, written}
+use Rattle.bridge.specs.Promise.{Handled, Replied, RanAll}
+use Rattle.bridge.specs.Run.{answeredAs, afterAs, Ran, ran, ranOne, ranTo, served}
+use Rattle.bridge.specs.Tables.{live}
+use Rattle.bridge.specs.declared.layout.Decoded.{Decoded}
+use Rattle.bridge.specs.declared.layout.Decoded.the-variants.{Named, Unnamed}
+
+pub request-is : (w : List ℕ) (k : ℕ) {h a b c d e : ℕ} {x : Decoded} → h ≡ at w (k * requestWords) → a ≡ at w (k * requestWords + 1)
+    → b ≡ at w (k * requestWords + 2) → c ≡ at w (k * requestWords + 3) → d ≡ at w (k * requestWords + 4) → e ≡ at w (k * requestWords + 5)
+    → x ≡ decoded h a b c d e → x ≡ decodedAt w k
+request-is w k h a b c d e x = rw (h, a, b, c, d, e) at x
+
+module _ (f : Tables) (m : List ℕ) (s : Live) {ok : Bool} (i : ok ≡ sized (f .sizes) (lengths f (length m) s)) where
+  pub unnamed-bad : ok ≡ true → Refuse BadRequest 0 ≡ answeredAs f m s Unnamed
+  unfolding answeredAs
+  unnamed-bad o = rw (← i, o)
+
+  pub unnamed-one : ok ≡ false → Refuse TableLength 0 ≡ answeredAs f m s Unnamed
+  unfolding answeredAs
+  unnamed-one o = rw (← i, o)
+
+module _ (f : Tables) (m : List ℕ) (s : Live) {d : Decoded} {a : Answer} where
+  pub named-replied : {q : Request} {t : Live} → d ≡ Named q → Handled f m s q a t → Replied f m s d a t
+  unfolding answeredAs afterAs
+  named-replied i h = rw i (record { answers = h .answers; leaves = h .leaves })
+
+  pub unnamed-replied : d ≡ Unnamed → a ≡ answeredAs f m s Unnamed → Replied f m s d a s
+  unfolding afterAs
+  unnamed-replied i h = rw i (record { answers = h; leaves = refl })
+
+-- one request, served
+pub one-served : (f : Tables) (m w t i l : List ℕ) (k : ℕ) {d : Decoded} {a : Answer} {t′ i′ l′ : List ℕ} → d ≡ decodedAt w k
+    → Replied f m (live t i) d a (live t′ i′) → l′ ≡ stored l (k * answerWords) (numbered a) → ran t′ i′ l′ ≡ ranOne f m w (ran t i l) k
+unfolding written
+one-served f m w t i l k e r h = rw (h, r .leaves, r .answers, e)
+
+pub fewer-asked : (a b : ℕ) {x y : ℕ} → x ≡ a / requestWords → y ≡ b / answerWords → x ≤ y → x ≡ min (a / requestWords) (b / answerWords)
+fewer-asked a b h g o = rw (← h, ← g) (sym (min-eq-left o))
+
+pub fewer-room : (a b : ℕ) {x y : ℕ} → x ≡ a / requestWords → y ≡ b / answerWords → y < x → y ≡ min (a / requestWords) (b / answerWords)
+fewer-room a b h g o = rw (← h, ← g) (sym (min-eq-right (omega arith)))
+
+-- ---- the loop
+
+pub requests-fit : (a b : ℕ) {n : ℕ} → n ≡ min (a / requestWords) (b / answerWords) → n * requestWords ≤ a
+requests-fit a b e = omega (arith, min-le-left (a / requestWords) (b / answerWords), e)
+
+pub answers-fit : (a b : ℕ) {n : ℕ} → n ≡ min (a / requestWords) (b / answerWords) → n * answerWords ≤ b
+answers-fit a b e = omega (arith, min-le-right (a / requestWords) (b / answerWords), e)
+
+module _ (f : Tables) (m w : List ℕ) (s : Live) (l₀ : List ℕ) where
+  pub none-ran : {t i : List ℕ} → s ≡ live t i → ran t i l₀ ≡ ranTo f m w s l₀ 0
+  unfolding ranTo
+  none-ran e = rw e
+
+  pub one-more : (k : ℕ) {t i l t′ i′ l′ : List ℕ} → ran t i l ≡ ranTo f m w s l₀ k → ran t′ i′ l′ ≡ ranOne f m w (ran t i l) k
+      → ran t′ i′ l′ ≡ ranTo f m w s l₀ (k + 1)
+  unfolding ranTo
+  one-more k e h = rw (add-one k) (h ∙ ap (λ (r : Ran). ranOne f m w r k) e)
+
+  pub all-ran : {n k : ℕ} {t i l : List ℕ} → n ≡ served w l₀ → n ≤ k → k ≤ n → ran t i l ≡ ranTo f m w s l₀ k → RanAll f m w s l₀ n (live t i) l
+  all-ran {n = n} {k = k} e a b h =
+      let z : k ≡ served w l₀ = omega (arith, e) in
+      let r = rw z at h in
+      record { count = e; leaves = ap (λ (x : Ran). x .live) r; answers = ap (λ (x : Ran). x .answers) r; isolation = isolation }
