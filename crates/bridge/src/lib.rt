@@ -2,6 +2,7 @@
 mod access;
 pub mod decide;
 mod dma;
+pub mod export;
 mod firmware;
 pub mod handle;
 pub mod layout;
