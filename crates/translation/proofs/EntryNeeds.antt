@@ -18,7 +18,7 @@ use Rattle.translation.specs.Ask.{lowClass}
 
 module _ (a : ByteAddress) where
   pub low-class : {r : AddressClass} → a .0 / 2 ^ 60 ≡ 0 → r ≡ lowClass a → r ≡ classOf a
-  unfolding classOf
+  unfolding classOf lowClass
   low-class z e = rw (eq-eqb _ _ z) e
 
   pub msi-class : a .0 / 2 ^ 60 ≡ 1 → Msi64 ≡ classOf a
@@ -30,12 +30,15 @@ module _ (a : ByteAddress) where
   unserved-class z y = rw (ne-eqb _ 0 z, ne-eqb _ 1 y)
 
   pub msi-window : 0xFFFF0000 ≤ a .0 → a .0 < 0x100000000 → Msi32 ≡ lowClass a
+  unfolding lowClass
   msi-window l h = rw (le-leb _ _ l, le-leb (a .0) 0xFFFFFFFF (omega arith))
 
   pub below-window : a .0 < 0xFFFF0000 → Dma ≡ lowClass a
+  unfolding lowClass
   below-window l = rw (lt-leb _ _ l)
 
   pub above-window : 0x100000000 ≤ a .0 → Dma ≡ lowClass a
+  unfolding lowClass
   above-window h = rw (le-leb 0xFFFF0000 (a .0) (omega arith), lt-leb (a .0) 0xFFFFFFFF (omega arith))
 
   pub masked-offset : bitAnd (a .0) (2 ^ 59 - 1) ≡ a .0 % 2 ^ 59

@@ -43,18 +43,18 @@ pub base-is : (w : ℕ) → w < 2 ^ 64 → _≡_ {A = ByteAddress} (record { 0 =
 base-is w h = rw (cleared w 12 h)
 
 -- `turn`: the last word
-pub last-word : (k n j w : ℕ) → k ≡ 0 → End (record { found = Frame w; words = 1 }) ≡ next k n j w
+pub last-word : (k n j w : ℕ) → k ≡ 0 → End (Frame w) 1 ≡ next k n j w
 unfolding next
 last-word k n j w z = rw z
 
 -- and an upper word
-upper : (k n j w : ℕ) → (k ≡ 0 → ⊥) → next k n j w ≡ cond (leads n w) (Table (nextBase w)) (End (record { found = Forbidden j; words = 1 }))
+upper : (k n j w : ℕ) → (k ≡ 0 → ⊥) → next k n j w ≡ cond (leads n w) (Table (nextBase w)) (End (Forbidden j) 1)
 unfolding next
 upper zero n j w up = absurd (up refl)
 upper (suc k) n j w up = refl
 
 module _ (k n j w : ℕ) (up : k ≡ 0 → ⊥) where
-  pub no-rights : w % 4 ≡ 0 → End (record { found = Forbidden j; words = 1 }) ≡ next k n j w
+  pub no-rights : w % 4 ≡ 0 → End (Forbidden j) 1 ≡ next k n j w
   unfolding leads
   no-rights z = sym (upper k n j w up ∙ rw z)
 
@@ -63,13 +63,13 @@ module _ (k n j w : ℕ) (up : k ≡ 0 → ⊥) where
     unfolding leads
     leads-on t = sym (upper k n j w up ∙ rw (ne-eqb _ _ rights, ← e, ← a, t))
 
-    pub misaligned : ok ≡ false → End (record { found = Forbidden j; words = 1 }) ≡ next k n j w
+    pub misaligned : ok ≡ false → End (Forbidden j) 1 ≡ next k n j w
     unfolding leads
     misaligned t = sym (upper k n j w up ∙ rw (ne-eqb _ _ rights, ← e, ← a, t))
 
 -- `step`
 module _ (m : List ℕ) (k n : ℕ) (b : ByteAddress) (q : PageNumber) {p : ℕ} (here : p ≡ place k n b q) where
-  pub outside : length m ≤ p → End (record { found = Outside p; words = 0 }) ≡ stepped m k n b q
+  pub outside : length m ≤ p → End (Outside p) 0 ≡ stepped m k n b q
   unfolding stepped
   outside h = rw (← here, le-ltb _ _ h)
 

@@ -10,6 +10,7 @@ use native.Mathlib.Omega.{arith}
 use mir.Syntax.{w64}
 use mir.Val.{Fits}
 use Rattle.kinds.specs.Words.{at}
+use Rattle.kinds.specs.declared.lookup.Found.{Found}
 use Rattle.kinds.specs.declared.lookup.Found.the-variants.{Forbidden}
 use Rattle.kinds.specs.declared.number.ByteAddress.{ByteAddress}
 use Rattle.kinds.specs.declared.number.PageNumber.{PageNumber}
@@ -49,10 +50,10 @@ module _ (m : List ℕ) (q : PageNumber) (n top l words : ℕ) (first base : Byt
   turned : counted (walkFrom m top n first q) ≡ later words (taken x (counted (walkFrom m (l - 1) n (nextBase (at m (place (l - 1) n base q))) q)))
   turned = same ∙ ap (later words) (level m q n l base some ∙ rw (← e))
 
-  pub words-fit : l + words ≤ 5 → {w : Walked} → x ≡ End w → Fits w64 (words + w .words)
-  words-fit h {w} z = omega (arith, step-words m (l - 1) n base q w (sym e ∙ z))
+  pub words-fit : l + words ≤ 5 → {f : Found} {c : ℕ} → x ≡ End f c → Fits w64 (words + c)
+  words-fit h {f} {c} z = omega (arith, step-words m (l - 1) n base q f c (sym e ∙ z))
 
-  pub ended : {w : Walked} → x ≡ End w → _≡_ {A = Walked} (record { found = w .found; words = words + w .words }) (counted (walkFrom m top n first q))
+  pub ended : {f : Found} {c : ℕ} → x ≡ End f c → _≡_ {A = Walked} (record { found = f; words = words + c }) (counted (walkFrom m top n first q))
   ended z = sym (turned ∙ rw z)
 
   pub lower : {b : ByteAddress} → x ≡ Table b → counted (walkFrom m top n first q) ≡ later (words + 1) (counted (walkFrom m (l - 1) n b q))

@@ -30,7 +30,7 @@ use Rattle.translation.specs.declared.shape.Shape.the-variants.{Pages, B
 use Rattle.translation.specs.declared.shape.SizeCode.{SizeCode}
 use Rattle.translation.specs.declared.shape.SizeCode.the-variants.{Known, Unknown}
 
-abbrev pub lowClass : ByteAddress → AddressClass
+unfoldable pub lowClass : ByteAddress → AddressClass
 lowClass a = cond (leb 0xFFFF0000 (a .0) && leb (a .0) 0xFFFFFFFF) Msi32 Dma
 
 abbrev pub known : TranslationEntry → Bool

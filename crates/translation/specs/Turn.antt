@@ -23,19 +23,19 @@ use Rattle.translation.specs.declared.walk.Next.the-variants.{Table, End
 use Rattle.translation.specs.declared.walk.Walked.{Walked}
 
 unfoldable pub next : (below bits place word : ℕ) → Next
-next zero n j w = End (record { found = Frame w; words = 1 })
-next (suc k) n j w = cond (leads n w) (Table (nextBase w)) (End (record { found = Forbidden j; words = 1 }))
+next zero n j w = End (Frame w) 1
+next (suc k) n j w = cond (leads n w) (Table (nextBase w)) (End (Forbidden j) 1)
 
 unfoldable pub stepped : List ℕ → (below bits : ℕ) → ByteAddress → PageNumber → Next
 stepped m k n b q =
-    cond (ltb (place k n b q) (length m)) (next k n (place k n b q) (at m (place k n b q))) (End (record { found = Outside (place k n b q); words = 0 }))
+    cond (ltb (place k n b q) (length m)) (next k n (place k n b q) (at m (place k n b q))) (End (Outside (place k n b q)) 0)
 
 abbrev pub counted : definition.Walked → Walked
 counted w = record { found = w .found; words = length (w .reads) }
 
 abbrev pub taken : Next → Walked → Walked
 taken (Table b) r = record { found = r .found; words = suc (r .words) }
-taken (End w) r = w
+taken (End f n) r = record { found = f; words = n }
 
 pub record Shaped (e : TranslationEntry) : Type 0 where
   pub table : e .table ≤ 31

@@ -2,7 +2,7 @@
 --     step-is             THE LAW: the walk of one level more, by what that level comes to
 --     step-base           the base that a level leads to; step-words: a level reads at most one word
 -- Assumes nothing.
-use mathlib.Core.Path.{_≡_, refl, ap}
+use mathlib.Core.Path.{_≡_, refl}
 use mathlib.Core.List.{List}
 use Prim.Native.Nat.{ℕ, zero, suc, _≤_, _-_}
 use native.Mathlib.Omega.{arith}
@@ -10,6 +10,7 @@ use lib.Dec.{ltb}
 use lib.ListN.{length}
 use Rattle.kinds.specs.Tests.{by-cases}
 use Rattle.kinds.specs.Words.{at}
+use Rattle.kinds.specs.declared.lookup.Found.{Found}
 use Rattle.kinds.specs.declared.number.ByteAddress.{ByteAddress}
 use Rattle.kinds.specs.declared.number.PageNumber.{PageNumber}
 use Rattle.profile.specs.Walk.{place, nextBase, leads, turn, walkFrom}
@@ -33,13 +34,10 @@ unfolding next
 next-base zero n j w b e = cc
 next-base (suc k) n j w b e = by-cases (leads n w) (λ t. let f = rw t at e in cc) (λ t. let f = rw t at e in cc)
 
-end-words : {x y : Walked} → End x ≡ End y → y .words ≡ x .words
-end-words {x} {y} e = let f : y ≡ x = cc in ap (λ (w : Walked). w .words) f
-
-next-words : (k n j w : ℕ) (r : Walked) → next k n j w ≡ End r → r .words ≡ 1
+next-words : (k n j w : ℕ) (f : Found) (c : ℕ) → next k n j w ≡ End f c → c ≡ 1
 unfolding next
-next-words zero n j w r e = end-words e
-next-words (suc k) n j w r e = by-cases (leads n w) (λ t. let f = rw t at e in cc) (λ t. end-words (rw t at e))
+next-words zero n j w f c e = cc
+next-words (suc k) n j w f c e = by-cases (leads n w) (λ t. let z = rw t at e in cc) (λ t. let z = rw t at e in cc)
 
 module _ (m : List ℕ) (k n : ℕ) (b : ByteAddress) (q : PageNumber) where
   pub step-base : (c : ByteAddress) → stepped m k n b q ≡ Table c → nextBase (at m (place k n b q)) ≡ c
@@ -49,9 +47,9 @@ module _ (m : List ℕ) (k n : ℕ) (b : ByteAddress) (q : PageNumber) where
       (λ t. next-base k n (place k n b q) (at m (place k n b q)) c (rw t at e))
       (λ t. let f = rw t at e in cc)
 
-  pub step-words : (r : Walked) → stepped m k n b q ≡ End r → r .words ≤ 1
+  pub step-words : (f : Found) (c : ℕ) → stepped m k n b q ≡ End f c → c ≤ 1
   unfolding stepped
-  step-words r e =
+  step-words f c e =
       by-cases (ltb (place k n b q) (length m))
-      (λ t. omega (arith, next-words k n (place k n b q) (at m (place k n b q)) r (rw t at e)))
-      (λ t. omega (arith, end-words (rw t at e)))
+      (λ t. omega (arith, next-words k n (place k n b q) (at m (place k n b q)) f c (rw t at e)))
+      (λ t. let z : 0 ≡ c = let y = rw t at e in cc in omega arith)

@@ -1,13 +1,15 @@
-// What a DMA comes to by a translation entry.
+// What a DMA comes to.
 ghost use mathlib.Core.Path.{_≡_};
 ghost use Rattle.kinds.specs.declared.lookup.Found.the-variants.{Frame};
+ghost use Rattle.profile.specs.Walk.{allows, arriveAt, translated};
 ghost use Rattle.translation.specs.Ask.{finished};
 ghost use Rattle.translation.specs.Turn.{Shaped};
 ghost use Rattle.translation.specs.declared.ask.Asked.the-variants.{Walk};
-ghost use Rattle.profile.specs.Walk.{allows, arriveAt, translated};
 use crate::ask::Asked;
 use crate::ask::ask;
 use crate::entry::offset_of;
+use kinds::outcome::failed;
+use kinds::outcome::passed;
 use crate::walk::walk;
 use kinds::answer::Reason;
 use kinds::lookup::Found;
@@ -17,12 +19,10 @@ use kinds::number::PeNumber;
 use kinds::number::byte_address;
 use kinds::number::page_number;
 use kinds::outcome::Outcome;
-use kinds::outcome::failed;
-use kinds::outcome::passed;
 use kinds::record::TranslationEntry;
 use kinds::request::Direction;
 
-// By an entry of its PE.
+// What a DMA of a PE comes to by an entry.
 pub fn translate(
     memory: &[u64],
     entry: TranslationEntry,
@@ -40,7 +40,7 @@ pub fn translate(
     }
 }
 
-// By the walk of its page: the only reader of memory.
+// What it comes to by the walk of its page, the only reader of memory.
 fn finish(
     memory: &[u64],
     entry: TranslationEntry,
@@ -58,7 +58,7 @@ fn finish(
     arrive(size, direction, pe, address, found, walked.words)
 }
 
-// By what a walk found, with no memory lent.
+// What it comes to by what a walk found. No memory is lent.
 pub fn arrive(
     size: PageSize,
     direction: Direction,
@@ -76,7 +76,7 @@ pub fn arrive(
     }
 }
 
-// By the last table word.
+// What it comes to by the last table word.
 fn reach(
     size: PageSize,
     direction: Direction,

@@ -8,9 +8,10 @@ use kinds::record::TranslationEntry;
 use kinds::request::AddressClass;
 use kinds::words::word;
 
-// The words of a PE's two records, and of one.
+// The words of a PE's two records.
 const ENTRY_WORDS: usize = 8;
 
+// The words of one record.
 const RECORD_WORDS: usize = 4;
 
 // The class of an address, by its top four bits.

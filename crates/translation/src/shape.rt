@@ -2,15 +2,17 @@
 ghost use mathlib.Core.Path.{_≡_};
 ghost use Prim.Native.Nat.{_≤_};
 ghost use Rattle.translation.specs.Ask.{sizeCode, shapeOf};
+use crate::walk::CODE_BITS;
 use crate::walk::aligned;
 use kinds::number::ByteAddress;
 use kinds::number::PageSize;
 use kinds::number::page_bits;
 use kinds::record::TranslationEntry;
 
-// The most levels, and the most bits.
+// The most levels of tables.
 const MOST_LEVELS: u64 = 5;
 
+// The most bits of a page offset and all indexes together.
 const MOST_SPAN: u64 = 59;
 
 // A page code: one of the four sizes, or none.
@@ -38,7 +40,7 @@ fn page_size(entry: TranslationEntry) -> SizeCode
     }
 }
 
-// The table code is good before the bits are summed.
+// The table code has been found good, so that the bits can be summed.
 pub(crate) fn shape_of(entry: TranslationEntry) -> Shape
     requires { ⌜ entry .table ≤ 31 ⌝ }
     ensures { λ r. ⌜ r ≡ shapeOf entry ⌝ }
@@ -53,7 +55,7 @@ pub(crate) fn shape_of(entry: TranslationEntry) -> Shape
     if MOST_LEVELS < levels {
         return Shape::Bad;
     }
-    let bits = entry.table + 8;
+    let bits = entry.table + CODE_BITS;
     let span = page_bits(size) as u64 + levels * bits;
     if MOST_SPAN < span {
         return Shape::Bad;

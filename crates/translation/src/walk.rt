@@ -9,6 +9,9 @@ use kinds::number::ByteAddress;
 use kinds::number::PageNumber;
 use kinds::record::TranslationEntry;
 
+// A table of code c has 2^(c + 8) words.
+pub(crate) const CODE_BITS: u64 = 8;
+
 // What a walk found, and the count of words that it read.
 pub(crate) struct Walked {
     pub found: Found,
@@ -18,7 +21,7 @@ pub(crate) struct Walked {
 // What one level of a walk comes to: the base of the next table, or the end, with the words that it read.
 pub(crate) enum Next {
     Table(ByteAddress),
-    End(Walked),
+    End { found: Found, words: u64 },
 }
 
 // Whether a base is a multiple of the bytes of a table of 2^bits words.
@@ -51,25 +54,25 @@ fn turn(below: u64, bits: u64, place: u64, word: u64) -> Next
     ensures { λ r. ⌜ r ≡ next below bits place word ⌝ }
 {
     if below == 0 {
-        return Next::End(Walked {
+        return Next::End {
             found: Found::Frame { word },
             words: 1,
-        });
+        };
     }
     if word % 4 == 0 {
-        return Next::End(Walked {
+        return Next::End {
             found: Found::Forbidden { place },
             words: 1,
-        });
+        };
     }
     let base = next_base(word);
     if aligned(bits, base) {
         return Next::Table(base);
     }
-    Next::End(Walked {
+    Next::End {
         found: Found::Forbidden { place },
         words: 1,
-    })
+    }
 }
 
 // One level of the walk, with `below` levels below it.
@@ -79,10 +82,10 @@ fn step(memory: &[u64], below: u64, bits: u64, base: ByteAddress, page: PageNumb
 {
     let at = place(below, bits, base, page);
     if memory.len() <= at {
-        return Next::End(Walked {
+        return Next::End {
             found: Found::Outside { place: at as u64 },
             words: 0,
-        });
+        };
     }
     turn(below, bits, at as u64, memory[at])
 }
@@ -92,7 +95,7 @@ pub(crate) fn walk(memory: &[u64], entry: TranslationEntry, page: PageNumber) ->
     requires { ⌜ Shaped entry ⌝ }
     ensures { λ r. ⌜ r ≡ counted (walk (now (memory .entry)) entry page) ⌝ }
 {
-    let bits = entry.table + 8;
+    let bits = entry.table + CODE_BITS;
     let mut base = ByteAddress(entry.base);
     let mut below = entry.levels;
     let mut words: u64 = 0;
@@ -103,11 +106,10 @@ pub(crate) fn walk(memory: &[u64], entry: TranslationEntry, page: PageNumber) ->
                 base = lower;
                 words += 1;
             }
-            Next::End(here) => {
-                let found = here.found;
+            Next::End { found, words: here } => {
                 return Walked {
                     found,
-                    words: words + here.words,
+                    words: words + here,
                 };
             }
         }

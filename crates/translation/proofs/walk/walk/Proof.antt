@@ -42,8 +42,8 @@ loop-less c = search needs
 loop-again : tie.Need-loop-again Inv-loop μ-loop
 loop-again c = search (needs, laws.shift-less, laws.lower)
 
-enum-known-here : tie.Need-enum-known-here Inv-loop μ-loop
-enum-known-here c = search needs
+enum-known-found : tie.Need-enum-known-found Inv-loop μ-loop
+enum-known-found c = search needs
 
 add-t13 : tie.Need-add-t13 Inv-loop μ-loop
 add-t13 c = search (needs, laws.words-fit)
@@ -68,7 +68,7 @@ walk-spec =
     add-words
     loop-less
     loop-again
-    enum-known-here
+    enum-known-found
     add-t13
     returns
     returns-2)
