@@ -2,16 +2,15 @@
 use mathlib.Core.Path.{_≡_, refl, ap, _∙_}
 use mathlib.Core.Bool.{Bool, true, false}
 use mathlib.Core.List.{List, []}
-use Prim.Native.Nat.{ℕ, _<_}
-use native.Mathlib.Omega.{arith}
+use Prim.Native.Nat.{ℕ}
+use lib.Dec.{leb}
 use lib.ListN.{length}
+use borrow.Author.Tests.{le-leb}
 use Rattle.kinds.specs.Answer.{reasonNumber, numbered}
 use Rattle.kinds.specs.Tests.{by-cases, clash}
 use Rattle.kinds.specs.declared.answer.Reason.{Reason}
-use Rattle.kinds.specs.declared.lookup.Hit.{Hit}
 use Rattle.kinds.specs.declared.lookup.Owner.{Owner}
 use Rattle.kinds.specs.declared.lookup.Owner.the-variants.{Of, Nobody}
-use Rattle.kinds.specs.declared.number.ByteAddress.{ByteAddress}
 use Rattle.kinds.specs.declared.number.PeNumber.{PeNumber}
 use Rattle.kinds.specs.declared.outcome.Effect.{Effect}
 use Rattle.kinds.specs.declared.outcome.Effect.the-variants.{Keep, Freeze, Release, Interrupt}
@@ -19,17 +18,16 @@ use Rattle.kinds.specs.declared.outcome.Outcome.{Outcome}
 use Rattle.kinds.specs.declared.record.Sizes.{Sizes}
 use Rattle.kinds.specs.declared.request.Part.{Part}
 use Rattle.kinds.specs.declared.request.Request.{Request}
-use Rattle.kinds.specs.declared.request.Request.the-variants.{Dma, Load, Store, Error, Clear, End, Priority}
 use Rattle.isolation.specs.Isolation.{isolation}
 use Rattle.profile.specs.Freeze.{vectorIn, froze, released}
 use Rattle.profile.specs.Msi.{stored}
-use Rattle.profile.specs.Step.{ofHit, owner, act, actBy, decidedBy, decided, after}
-use Rattle.profile.specs.Tables.{Tables, Live, lengths, sized}
-use Rattle.profile.specs.Windows.{route}
+use Rattle.profile.specs.Step.{owner, act, actBy, decidedBy, decided, after}
+use Rattle.profile.specs.Tables.{Tables, Live, lengths, sized, mostPes}
 use Rattle.sizes.specs.PartsLaws.{sized-pes}
-use Rattle.bridge.proofs.SettleLaws.{hit-is}
+use Rattle.decision.specs.Promise.{knownOwner}
+use Rattle.decision.specs.PromiseLaws.{owner-reads}
+use Rattle.decision.specs.Tables.{tables, live}
 use Rattle.bridge.specs.Promise.{isKeep, Handled}
-use Rattle.bridge.specs.Tables.{tables, live}
 
 -- the effect e at PE p, on the state s and the interrupts l; v are the peers
 module _ (z : Sizes) (q n v w g : List ℕ) (p : PeNumber) {e : Effect} (s l : List ℕ) where
@@ -69,33 +67,6 @@ module _ (z z′ : Sizes) (v : List ℕ) {o : Owner} (e : Effect) (s l : List �
   unfolding actBy
   unowned h = rw h
 
--- ---- the owner of a request
-
-module _ (z : Sizes) (q w g l : List ℕ) {y : Request} {o : Owner} where
-  pub owner-case : {x : Request} → y ≡ x → o ≡ owner (tables z q [] [] w g) (live [] l) x → o ≡ owner (tables z q [] [] w g) (live [] l) y
-  owner-case i h = rw i h
-
-  -- of a load or store
-  module _ {a : ByteAddress} {n : ℕ} {h : Hit} (k : h ≡ route w g a) (e : o ≡ ofHit (tables z [] [] [] [] []) h) where
-    pub load-owner : y ≡ Load a n → o ≡ owner (tables z q [] [] w g) (live [] l) y
-    unfolding owner
-    load-owner i = rw i (e ∙ hit-is (tables z [] [] [] [] []) (tables z q [] [] w g) refl h ∙ ap (ofHit (tables z q [] [] w g)) k)
-
-    pub store-owner : y ≡ Store a n → o ≡ owner (tables z q [] [] w g) (live [] l) y
-    unfolding owner
-    store-owner i = rw i (e ∙ hit-is (tables z [] [] [] [] []) (tables z q [] [] w g) refl h ∙ ap (ofHit (tables z q [] [] w g)) k)
-
--- the owner needs sizes, requesters, windows, segments and interrupts
-owner-reads : (z : Sizes) (q e v w g t l : List ℕ) (y : Request) → owner (tables z q [] [] w g) (live [] l) y ≡ owner (tables z q e v w g) (live t l) y
-unfolding owner
-owner-reads z q e v w g t l (Dma r d a n k) = refl
-owner-reads z q e v w g t l (Load a n) = hit-is (tables z q [] [] w g) (tables z q e v w g) refl (route w g a)
-owner-reads z q e v w g t l (Store a n) = hit-is (tables z q [] [] w g) (tables z q e v w g) refl (route w g a)
-owner-reads z q e v w g t l (Error r) = refl
-owner-reads z q e v w g t l (Clear p c) = refl
-owner-reads z q e v w g t l (End i) = refl
-owner-reads z q e v w g t l (Priority i n) = refl
-
 actBy-reads : (f g : Tables) → f .peers ≡ g .peers → (o : Owner) (e : Effect) (s : Live) → actBy f o e s ≡ actBy g o e s
 unfolding actBy
 actBy-reads f g h (Of p) e s = act-reads f g h p e s
@@ -111,12 +82,12 @@ keep-keeps f (Of p) (Release c) s k = clash k refl
 keep-keeps f (Of p) (Interrupt i x b) s k = clash k refl
 keep-keeps f (Nobody r) e s k = refl
 
--- an effect is kept where the sizes are not good
-large-keeps : (f : Tables) (m : List ℕ) (s : Live) (y : Request) → 256 < f .sizes .pes → isKeep (decided f m s y .effect) ≡ true
+-- an effect is kept where N is above its limit
+large-keeps : (f : Tables) (m : List ℕ) (s : Live) (y : Request) → leb (f .sizes .pes) mostPes ≡ false → isKeep (decided f m s y .effect) ≡ true
 unfolding decidedBy
 large-keeps f m s y h =
     by-cases (sized (f .sizes) (lengths f (length m) s))
-    (λ o. absurd (let z = sized-pes (f .sizes) (lengths f (length m) s) o in omega arith))
+    (λ o. clash (le-leb _ _ (sized-pes (f .sizes) (lengths f (length m) s) o)) h)
     (λ o. rw o)
 
 module _ (f : Tables) (m : List ℕ) (s : Live) (y : Request) {x : Outcome} (h : x ≡ decided f m s y) where
@@ -128,16 +99,18 @@ module _ (f : Tables) (m : List ℕ) (s : Live) (y : Request) {x : Outcome} (h :
     isolation = isolation;
   }
 
-  pub nothing-done : {b : Bool} → b ≡ isKeep (x .effect) → b ≡ true → Handled f m s y (x .answer) s
-  nothing-done i k = handled (keep-keeps f (owner f s y) (decided f m s y .effect) s (rw (← h, ← i) k))
+  module _ {b : Bool} (i : b ≡ isKeep (x .effect)) where
+    pub nothing-done : b ≡ true → Handled f m s y (x .answer) s
+    nothing-done k = handled (keep-keeps f (owner f s y) (decided f m s y .effect) s (rw (← h, ← i) k))
 
-  pub none-to-do : {b : Bool} → b ≡ isKeep (x .effect) → b ≡ false → 256 < f .sizes .pes → Handled f m s y (x .answer) s
-  none-to-do i k g = clash (rw (← h, ← i) at (large-keeps f m s y g)) k
+    -- where there is something to do, the owner is known
+    owner-is : b ≡ false → knownOwner f s y ≡ owner f s y
+    owner-is k = by-cases (leb (f .sizes .pes) mostPes) (λ o. rw o) (λ o. clash (rw (← h, ← i) at (large-keeps f m s y o)) k)
 
-pub done-at : (z : Sizes) (q e m v w g t l : List ℕ) (y : Request) {x : Outcome} {o : Owner} {t′ l′ : List ℕ}
-    → x ≡ decided (tables z q e v w g) m (live t l) y → o ≡ owner (tables z q [] [] w g) (live [] l) y
+pub done-at : (z : Sizes) (q e m v w g t l : List ℕ) (y : Request) {x : Outcome} {b : Bool} {o : Owner} {t′ l′ : List ℕ}
+    → x ≡ decided (tables z q e v w g) m (live t l) y → b ≡ isKeep (x .effect) → b ≡ false → o ≡ knownOwner (tables z q [] [] w g) (live [] l) y
     → live t′ l′ ≡ actBy (tables z [] [] v [] []) o (x .effect) (live t l) → Handled (tables z q e v w g) m (live t l) y (x .answer) (live t′ l′)
-done-at z q e m v w g t l y {x = x} {o = o} h i k =
+done-at z q e m v w g t l y {x = x} {o = o} h j b i k =
+    let same : o ≡ owner (tables z q e v w g) (live t l) y = rw (owner-reads z q e v w g t l y) at i ∙ owner-is (tables z q e v w g) m (live t l) y h j b in
     handled (tables z q e v w g) m (live t l) y h
-    (k ∙ actBy-reads (tables z [] [] v [] []) (tables z q e v w g) refl o (x .effect) (live t l)
-    ∙ rw (i ∙ owner-reads z q e v w g t l y, ap (λ (u : Outcome). u .effect) h))
+    (k ∙ actBy-reads (tables z [] [] v [] []) (tables z q e v w g) refl o (x .effect) (live t l) ∙ rw (same, ap (λ (u : Outcome). u .effect) h))

@@ -18,7 +18,7 @@ use Rattle.profile.specs.Tables.{Tables, Live, lengths, sized}
 use Rattle.bridge.specs.Layout.{requestWords, answerWords, decoded, decodedAt, stored, written}
 use Rattle.bridge.specs.Promise.{Handled, Replied, RanAll}
 use Rattle.bridge.specs.Run.{answeredAs, afterAs, Ran, ran, ranOne, ranTo, served}
-use Rattle.bridge.specs.Tables.{live}
+use Rattle.decision.specs.Tables.{live}
 use Rattle.bridge.specs.declared.layout.Decoded.{Decoded}
 use Rattle.bridge.specs.declared.layout.Decoded.the-variants.{Named, Unnamed}
 

@@ -1,6 +1,4 @@
-pub mod ByValue
 pub mod Layout
 pub mod LayoutLaws
 pub mod Promise
 pub mod Run
-pub mod Tables

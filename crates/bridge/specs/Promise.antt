@@ -1,6 +1,4 @@
 -- What the entry points promise.
---     outcomeOf f m s p q     what a request of PE p comes to
---     settledOn f m s q       what a well formed request comes to, on tables whose sizes are good
 --     isKeep e                effect e changes nothing
 --     Handled f m s q a t     request q was answered a and left t: as the definition says, and isolation holds of that definition
 --     Replied f m s d a t     the same of what the words of a request name
@@ -13,22 +11,14 @@ use mathlib.Core.List.{List}
 use Prim.Native.Nat.{ℕ}
 use Rattle.kinds.specs.Answer.{numbered}
 use Rattle.kinds.specs.declared.answer.Answer.{Answer}
-use Rattle.kinds.specs.declared.number.PeNumber.{PeNumber}
 use Rattle.kinds.specs.declared.outcome.Effect.{Effect}
 use Rattle.kinds.specs.declared.outcome.Effect.the-variants.{Keep, Freeze, Release, Interrupt}
-use Rattle.kinds.specs.declared.outcome.Outcome.{Outcome}
 use Rattle.kinds.specs.declared.request.Request.{Request}
 use Rattle.isolation.specs.Isolation.{Isolation}
-use Rattle.profile.specs.Step.{owner, ask, finish, settled, answered, after}
+use Rattle.profile.specs.Step.{answered, after}
 use Rattle.profile.specs.Tables.{Tables, Live}
 use Rattle.bridge.specs.Run.{answeredAs, afterAs, served, ranTo}
 use Rattle.bridge.specs.declared.layout.Decoded.{Decoded}
-
-abbrev pub outcomeOf : Tables → List ℕ → Live → PeNumber → Request → Outcome
-outcomeOf f m s p q = finish f m p (ask f s p q)
-
-abbrev pub settledOn : Tables → List ℕ → Live → Request → Outcome
-settledOn f m s q = settled (finish f m) f s q (owner f s q)
 
 abbrev pub isKeep : Effect → Bool
 isKeep Keep = true

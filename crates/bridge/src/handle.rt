@@ -1,23 +1,18 @@
 // One request: what it comes to, and then its effect. Only state and interrupts are written.
-use crate::decide;
-use crate::owner;
+use decision::decide;
+use decision::owner;
 use endpoints;
 use interrupts;
 use kinds::answer::Answer;
-use kinds::answer::Reason;
 use kinds::lookup::Owner;
 use kinds::number::PeNumber;
 use kinds::outcome::Effect;
 use kinds::record::Sizes;
 use kinds::request::Request;
-use windows;
 ghost use mathlib.Core.Path.{_≡_};
-ghost use mathlib.Core.Bool.{cond};
 ghost use mathlib.Core.List.{[]};
-ghost use Prim.Native.Nat.{_≤_};
-ghost use lib.Dec.{leb};
-ghost use Rattle.profile.specs.Step.{owner, act, actBy};
-ghost use Rattle.bridge.specs.Tables.{tables, live};
+ghost use Rattle.profile.specs.Step.{act, actBy};
+ghost use Rattle.decision.specs.Tables.{tables, live};
 ghost use Rattle.bridge.specs.Promise.{isKeep, Handled};
 
 // An effect at a PE.
@@ -67,53 +62,7 @@ fn keeps(effect: Effect) -> bool
     }
 }
 
-// The PE that a request belongs to.
-fn owner_of(
-    sizes: Sizes,
-    requesters: &[u16],
-    interrupts: &[u64],
-    windows: &[u64],
-    segments: &[u16],
-    request: Request,
-) -> Owner
-    requires { ⌜ sizes .pes ≤ 256 ⌝ }
-    ensures { λ r. ⌜ r ≡ owner (tables sizes (now (requesters .entry)) [] [] (now (windows .entry)) (now (segments .entry))) (live [] (now (interrupts .entry))) request ⌝ }
-{
-    match request {
-        Request::Dma {
-            requester,
-            direction: _,
-            address: _,
-            length: _,
-            data: _,
-        } => {
-            return owner::of_requester(sizes, requesters, requester);
-        }
-        Request::Load { address, width: _ } => {
-            return owner::of_hit(sizes, windows::route(windows, segments, address));
-        }
-        Request::Store { address, width: _ } => {
-            return owner::of_hit(sizes, windows::route(windows, segments, address));
-        }
-        Request::Error { requester } => {
-            return owner::of_requester(sizes, requesters, requester);
-        }
-        Request::Clear { pe, part: _ } => {
-            return owner::named_pe(Reason::BadFirmware, sizes, pe);
-        }
-        Request::End { interrupt } => {
-            return owner::of_interrupt(sizes, interrupts, interrupt);
-        }
-        Request::Priority {
-            interrupt,
-            priority: _,
-        } => {
-            return owner::of_interrupt(sizes, interrupts, interrupt);
-        }
-    }
-}
-
-// An effect at the owner of its request. On tables of a bad size there is none.
+// An effect at the owner of its request.
 fn act_by(
     sizes: Sizes,
     peers: &[u64],
@@ -166,10 +115,7 @@ pub fn handle(
     if keeps(effect) {
         return outcome.answer;
     }
-    if sizes.pes <= 256 {
-        let owner = owner_of(sizes, requesters, interrupts, windows, segments, request);
-        act_by(sizes, peers, interrupts, state, owner, effect);
-        return outcome.answer;
-    }
+    let owner = owner::owner_of(sizes, requesters, interrupts, windows, segments, request);
+    act_by(sizes, peers, interrupts, state, owner, effect);
     outcome.answer
 }

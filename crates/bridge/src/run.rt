@@ -15,7 +15,7 @@ ghost use Rattle.bridge.specs.Layout.{decodedAt, requestWords, answerWor
 ghost use Rattle.bridge.specs.Promise.{Replied, RanAll};
 ghost use Rattle.bridge.specs.Run.{answeredAs, ran, ranOne};
 ghost use Rattle.bridge.specs.declared.layout.Decoded.the-variants.{Unnamed};
-ghost use Rattle.bridge.specs.Tables.{tables, live};
+ghost use Rattle.decision.specs.Tables.{tables, live};
 
 // Request `k` of the list, by its words.
 fn request_at(requests: &[u64], k: usize) -> Decoded

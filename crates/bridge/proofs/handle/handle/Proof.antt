@@ -33,15 +33,6 @@ same-length-4 c = search needs
 returns-2 : tie.Need-returns-2
 returns-2 c = search laws.done-at
 
-same-length-5 : tie.Need-same-length-5
-same-length-5 c = search needs
-
-same-length-6 : tie.Need-same-length-6
-same-length-6 c = search needs
-
-returns-3 : tie.Need-returns-3
-returns-3 c = search laws.none-to-do
-
 pub handle-spec : {M : Type 1} → statement M
 handle-spec =
     tie.close
@@ -55,7 +46,4 @@ handle-spec =
     act-by-requires
     same-length-3
     same-length-4
-    returns-2
-    same-length-5
-    same-length-6
-    returns-3)
+    returns-2)

@@ -6,7 +6,7 @@ use native.Mathlib.Omega.{arith}
 use lib.ListN.{length}
 use borrow.Author.Needs.{needs}
 use Rattle.bridge.specs.Run.{ran, ranTo}
-use Rattle.bridge.specs.Tables.{tables, live}
+use Rattle.decision.specs.Tables.{tables, live}
 use Rattle.bridge.proofs.RunLaws as laws
 use Rattle.bridge.proofs.run.run.Statement.{statement}
 use Rattle.bridge.proofs.run.run.Tie as tie

@@ -1,0 +1,3 @@
+pub mod DecideLaws
+pub mod OwnerLaws
+pub mod SettleLaws

@@ -1,0 +1,85 @@
+use Rattle.profile.specs.Step.{formed}
+use Rattle.decision.proofs.SettleLaws as laws
+use borrow.Author.Needs.{needs}
+use Rattle.decision.proofs.decide.is_formed.Statement.{statement}
+use Rattle.decision.proofs.decide.is_formed.Tie as tie
+
+enum-known-request : tie.Need-enum-known-request
+enum-known-request c = search needs
+
+dma-formed-requires : tie.Need-dma-formed-requires
+dma-formed-requires c κs = search needs
+
+returns : tie.Need-returns
+unfolding formed
+returns c = search laws.formed-case
+
+enum-known-request-2 : tie.Need-enum-known-request-2
+enum-known-request-2 c = search needs
+
+access-formed-requires : tie.Need-access-formed-requires
+access-formed-requires c κs = search needs
+
+returns-2 : tie.Need-returns-2
+unfolding formed
+returns-2 c = search laws.formed-case
+
+enum-known-request-3 : tie.Need-enum-known-request-3
+enum-known-request-3 c = search needs
+
+access-formed-requires-2 : tie.Need-access-formed-requires-2
+access-formed-requires-2 c κs = search needs
+
+returns-3 : tie.Need-returns-3
+unfolding formed
+returns-3 c = search laws.formed-case
+
+enum-told : tie.Need-enum-told
+enum-told c = search needs
+
+returns-4 : tie.Need-returns-4
+unfolding formed
+returns-4 c = search laws.formed-case
+
+enum-told-2 : tie.Need-enum-told-2
+enum-told-2 c = search needs
+
+returns-5 : tie.Need-returns-5
+unfolding formed
+returns-5 c = search laws.formed-case
+
+enum-told-3 : tie.Need-enum-told-3
+enum-told-3 c = search needs
+
+returns-6 : tie.Need-returns-6
+unfolding formed
+returns-6 c = search laws.formed-case
+
+enum-known-request-4 : tie.Need-enum-known-request-4
+enum-known-request-4 c = search needs
+
+returns-7 : tie.Need-returns-7
+unfolding formed
+returns-7 c = search laws.formed-case
+
+pub is-formed-spec : {M : Type 1} → statement M
+is-formed-spec =
+    tie.close
+    (tie.spec
+    enum-known-request
+    dma-formed-requires
+    returns
+    enum-known-request-2
+    access-formed-requires
+    returns-2
+    enum-known-request-3
+    access-formed-requires-2
+    returns-3
+    enum-told
+    returns-4
+    enum-told-2
+    returns-5
+    enum-told-3
+    returns-6
+    enum-known-request-4
+    returns-7)

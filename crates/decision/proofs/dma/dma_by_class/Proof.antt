@@ -1,0 +1,81 @@
+use Rattle.decision.proofs.DecideLaws as laws
+use borrow.Author.Needs.{needs}
+use Rattle.decision.proofs.dma.dma_by_class.Statement.{statement}
+use Rattle.decision.proofs.dma.dma_by_class.Tie as tie
+
+class-of-requires : tie.Need-class-of-requires
+class-of-requires c κs = search needs
+
+enum-told : tie.Need-enum-told
+enum-told c = search needs
+
+entry-of-requires : tie.Need-entry-of-requires
+entry-of-requires c κs = search needs
+
+translate-requires : tie.Need-translate-requires
+translate-requires c κs = search needs
+
+returns : tie.Need-returns
+returns c = search laws.by-table
+
+enum-told-2 : tie.Need-enum-told-2
+enum-told-2 c = search needs
+
+msi-number32-requires : tie.Need-msi-number32-requires
+msi-number32-requires c κs = search needs
+
+msi-formed-requires : tie.Need-msi-formed-requires
+msi-formed-requires c κs = search needs
+
+deliver-msi-requires : tie.Need-deliver-msi-requires
+deliver-msi-requires c κs = search needs
+
+returns-2 : tie.Need-returns-2
+returns-2 c = search laws.by-msi32
+
+enum-told-3 : tie.Need-enum-told-3
+enum-told-3 c = search needs
+
+msi-number64-requires : tie.Need-msi-number64-requires
+msi-number64-requires c κs = search needs
+
+msi-formed-requires-2 : tie.Need-msi-formed-requires-2
+msi-formed-requires-2 c κs = search needs
+
+deliver-msi-requires-2 : tie.Need-deliver-msi-requires-2
+deliver-msi-requires-2 c κs = search needs
+
+returns-3 : tie.Need-returns-3
+returns-3 c = search laws.by-msi64
+
+enum-told-4 : tie.Need-enum-told-4
+enum-told-4 c = search needs
+
+failed-requires : tie.Need-failed-requires
+failed-requires c κs = search needs
+
+returns-4 : tie.Need-returns-4
+returns-4 c = search laws.by-none
+
+pub dma-by-class-spec : {M : Type 1} → statement M
+dma-by-class-spec =
+    tie.close
+    (tie.spec
+    class-of-requires
+    enum-told
+    entry-of-requires
+    translate-requires
+    returns
+    enum-told-2
+    msi-number32-requires
+    msi-formed-requires
+    deliver-msi-requires
+    returns-2
+    enum-told-3
+    msi-number64-requires
+    msi-formed-requires-2
+    deliver-msi-requires-2
+    returns-3
+    enum-told-4
+    failed-requires
+    returns-4)

@@ -1,0 +1,19 @@
+use borrow.Author.Needs.{needs}
+use Rattle.kinds.specs.Tests.{tests}
+use Rattle.profile.specs.Tables.{named}
+use Rattle.decision.proofs.owner.named_pe.Statement.{statement}
+use Rattle.decision.proofs.owner.named_pe.Tie as tie
+
+cast-t5 : tie.Need-cast-t5
+cast-t5 c = search needs
+
+returns : tie.Need-returns
+unfolding named
+returns c = search tests
+
+returns-2 : tie.Need-returns-2
+unfolding named
+returns-2 c = search tests
+
+pub named-pe-spec : {M : Type 1} → statement M
+named-pe-spec = tie.close (tie.spec cast-t5 returns returns-2)

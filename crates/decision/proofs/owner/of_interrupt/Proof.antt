@@ -1,0 +1,19 @@
+use Rattle.decision.proofs.OwnerLaws as laws
+use borrow.Author.Needs.{needs}
+use Rattle.decision.proofs.owner.of_interrupt.Statement.{statement}
+use Rattle.decision.proofs.owner.of_interrupt.Tie as tie
+
+interrupt-at-requires : tie.Need-interrupt-at-requires
+interrupt-at-requires c κs = search needs
+
+named-pe-requires : tie.Need-named-pe-requires
+named-pe-requires c κs = search needs
+
+returns : tie.Need-returns
+returns c = search laws.interrupt-known
+
+returns-2 : tie.Need-returns-2
+returns-2 c = search laws.past-count
+
+pub of-interrupt-spec : {M : Type 1} → statement M
+of-interrupt-spec = tie.close (tie.spec interrupt-at-requires named-pe-requires returns returns-2)

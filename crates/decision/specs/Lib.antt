@@ -1,0 +1,4 @@
+pub mod ByValue
+pub mod Promise
+pub mod PromiseLaws
+pub mod Tables

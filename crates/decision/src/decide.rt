@@ -1,0 +1,189 @@
+// What a request comes to, on any tables: its answer and its effect. Nothing is written.
+use crate::access;
+use crate::dma;
+use crate::firmware;
+use crate::owner;
+use kinds::answer::Answer;
+use kinds::answer::Reason;
+use kinds::lookup::Owner;
+use kinds::outcome;
+use kinds::outcome::Effect;
+use kinds::outcome::Outcome;
+use kinds::record::Lengths;
+use kinds::record::Sizes;
+use kinds::request::Request;
+use sizes;
+use windows;
+ghost use mathlib.Core.Path.{_≡_};
+ghost use mathlib.Core.Bool.{true};
+ghost use mathlib.Core.List.{[]};
+ghost use Prim.Native.Nat.{_≤_};
+ghost use Rattle.kinds.specs.declared.request.Request.the-variants.{Error};
+ghost use Rattle.profile.specs.Step.{formed, decided};
+ghost use Rattle.decision.specs.Promise.{settledOn};
+ghost use Rattle.decision.specs.Tables.{tables, live};
+
+// Whether a request is well formed, as far as it says itself.
+fn is_formed(request: Request) -> bool
+    ensures { λ r. ⌜ r ≡ formed request ⌝ }
+{
+    match request {
+        Request::Dma {
+            requester: _,
+            direction: _,
+            address,
+            length,
+            data: _,
+        } => {
+            return dma::dma_formed(address, length);
+        }
+        Request::Load { address, width } => {
+            return windows::access_formed(address, width);
+        }
+        Request::Store { address, width } => {
+            return windows::access_formed(address, width);
+        }
+        Request::Error { requester: _ } => {
+            return true;
+        }
+        Request::Clear { pe: _, part: _ } => {
+            return true;
+        }
+        Request::End { interrupt: _ } => {
+            return true;
+        }
+        Request::Priority {
+            interrupt: _,
+            priority,
+        } => {
+            return priority <= 255;
+        }
+    }
+}
+
+fn error(sizes: Sizes, requesters: &[u16], requester: u64) -> Outcome
+    requires { ⌜ sizes .pes ≤ 256 ⌝ }
+    ensures { λ r. ⌜ r ≡ settledOn (tables sizes (now (requesters .entry)) [] [] [] []) [] (live [] []) (Error requester) ⌝ }
+{
+    match owner::of_requester(sizes, requesters, requester) {
+        Owner::Of(_) => {
+            return outcome::done(Effect::Freeze {
+                reason: Reason::ErrorMessage,
+                value: requester,
+            });
+        }
+        Owner::Nobody(reason) => {
+            return outcome::refused(reason);
+        }
+    }
+}
+
+// A request on tables whose sizes are good, and that is well formed.
+fn settle(
+    sizes: Sizes,
+    requesters: &[u16],
+    entries: &[u64],
+    memory: &[u64],
+    peers: &[u64],
+    interrupts: &[u64],
+    windows: &[u64],
+    segments: &[u16],
+    state: &[u64],
+    request: Request,
+) -> Outcome
+    requires { ⌜ (sizes .pes ≤ 256) × (formed request ≡ true) ⌝ }
+    ensures { λ r. ⌜ r ≡ settledOn (tables sizes (now (requesters .entry)) (now (entries .entry)) (now (peers .entry)) (now (windows .entry)) (now (segments .entry))) (now (memory .entry)) (live (now (state .entry)) (now (interrupts .entry))) request ⌝ }
+{
+    match request {
+        Request::Dma {
+            requester,
+            direction,
+            address,
+            length,
+            data,
+        } => {
+            return dma::by_requester(
+                sizes,
+                requesters,
+                entries,
+                memory,
+                interrupts,
+                state,
+                requester,
+                direction,
+                address,
+                length,
+                data,
+            );
+        }
+        Request::Load { address, width } => {
+            let hit = windows::route(windows, segments, address);
+            let value = windows::ones(width);
+            return access::access_of(sizes, state, hit, Answer::Ones { value });
+        }
+        Request::Store { address, width: _ } => {
+            let hit = windows::route(windows, segments, address);
+            return access::access_of(sizes, state, hit, Answer::Drop);
+        }
+        Request::Error { requester } => {
+            return error(sizes, requesters, requester);
+        }
+        Request::Clear { pe, part } => {
+            return firmware::clear(sizes, pe, part);
+        }
+        Request::End { interrupt } => {
+            return firmware::end(sizes, interrupts, interrupt);
+        }
+        Request::Priority {
+            interrupt,
+            priority,
+        } => {
+            return firmware::prioritize(sizes, interrupts, interrupt, priority);
+        }
+    }
+}
+
+// The answer to a request and its effect, whatever the lengths of the tables.
+pub fn decide(
+    sizes: Sizes,
+    requesters: &[u16],
+    entries: &[u64],
+    memory: &[u64],
+    peers: &[u64],
+    interrupts: &[u64],
+    windows: &[u64],
+    segments: &[u16],
+    state: &[u64],
+    request: Request,
+) -> Outcome
+    ensures { λ r. ⌜ r ≡ decided (tables sizes (now (requesters .entry)) (now (entries .entry)) (now (peers .entry)) (now (windows .entry)) (now (segments .entry))) (now (memory .entry)) (live (now (state .entry)) (now (interrupts .entry))) request ⌝ }
+{
+    let lengths = Lengths {
+        requesters: requesters.len() as u64,
+        entries: entries.len() as u64,
+        memory: memory.len() as u64,
+        peers: peers.len() as u64,
+        interrupts: interrupts.len() as u64,
+        windows: windows.len() as u64,
+        segments: segments.len() as u64,
+        state: state.len() as u64,
+    };
+    if sizes::sized(sizes, lengths) {
+        if is_formed(request) {
+            return settle(
+                sizes,
+                requesters,
+                entries,
+                memory,
+                peers,
+                interrupts,
+                windows,
+                segments,
+                state,
+                request,
+            );
+        }
+        return outcome::refused(Reason::BadRequest);
+    }
+    outcome::refused(Reason::TableLength)
+}

@@ -1,0 +1,165 @@
+// A DMA: its form, and what it comes to by its requester, the stop bits of its PE and the class of its address.
+use crate::owner;
+use endpoints;
+use interrupts;
+use kinds::answer::Reason;
+use kinds::lookup::Owner;
+use kinds::number::ByteAddress;
+use kinds::number::PeNumber;
+use kinds::outcome;
+use kinds::outcome::Outcome;
+use kinds::record::Sizes;
+use kinds::request::AddressClass;
+use kinds::request::Direction;
+use translation::dma;
+use translation::entry;
+ghost use mathlib.Core.Path.{_≡_};
+ghost use mathlib.Core.List.{[]};
+ghost use Prim.Native.Nat.{_≤_};
+ghost use Rattle.kinds.specs.Words.{at};
+ghost use Rattle.kinds.specs.declared.request.Request.the-variants.{Dma};
+ghost use Rattle.profile.specs.Entry.{classOf};
+ghost use Rattle.profile.specs.Freeze.{stopWord};
+ghost use Rattle.profile.specs.Msi.{msi};
+ghost use Rattle.profile.specs.Step.{dmaFormed};
+ghost use Rattle.decision.specs.ByValue.{classed, dmaOf};
+ghost use Rattle.decision.specs.Promise.{settledOn};
+ghost use Rattle.decision.specs.Tables.{tables, live};
+
+// 1 to 4,096 bytes, all in one block of 4,096.
+pub(crate) fn dma_formed(address: ByteAddress, length: u64) -> bool
+    ensures { λ r. ⌜ r ≡ dmaFormed address length ⌝ }
+{
+    if length < 1 {
+        return false;
+    }
+    if 4096 < length {
+        return false;
+    }
+    address.0 % 4096 + length <= 4096
+}
+
+// An MSI of a PE, with its number.
+fn deliver_msi(
+    sizes: Sizes,
+    interrupts: &[u64],
+    pe: PeNumber,
+    address: ByteAddress,
+    number: u64,
+    good: bool,
+) -> Outcome
+    ensures { λ r. ⌜ r ≡ msi (tables sizes [] [] [] [] []) (live [] (now (interrupts .entry))) pe address number good ⌝ }
+{
+    if good {
+        if number < sizes.interrupts {
+            let record = interrupts::interrupt_at(interrupts, number);
+            return interrupts::deliver(pe, address, number, record);
+        }
+        return outcome::failed(Reason::MsiRefused, address, 0);
+    }
+    outcome::failed(Reason::MsiRefused, address, 0)
+}
+
+// A DMA of a PE that is not stopped, by the class of its address.
+fn dma_by_class(
+    sizes: Sizes,
+    entries: &[u64],
+    memory: &[u64],
+    interrupts: &[u64],
+    pe: PeNumber,
+    direction: Direction,
+    address: ByteAddress,
+    length: u64,
+    data: u32,
+) -> Outcome
+    ensures { λ r. ⌜ r ≡ classed (classOf address) sizes (now (entries .entry)) (now (memory .entry)) (now (interrupts .entry)) pe direction address length «data» ⌝ }
+{
+    match entry::class_of(address) {
+        AddressClass::Dma => {
+            let entry = entry::entry_of(entries, pe, address);
+            return dma::translate(memory, entry, pe, direction, address);
+        }
+        AddressClass::Msi32 => {
+            let number = interrupts::msi_number32(address, data);
+            let good = interrupts::msi_formed(direction, address, length);
+            return deliver_msi(sizes, interrupts, pe, address, number, good);
+        }
+        AddressClass::Msi64 => {
+            let number = interrupts::msi_number64(address, data);
+            let good = interrupts::msi_formed(direction, address, length);
+            return deliver_msi(sizes, interrupts, pe, address, number, good);
+        }
+        AddressClass::Unserved => {
+            return outcome::failed(Reason::AddressClass, address, 0);
+        }
+    }
+}
+
+// A DMA of a PE.
+fn dma_of(
+    sizes: Sizes,
+    entries: &[u64],
+    memory: &[u64],
+    interrupts: &[u64],
+    state: &[u64],
+    pe: PeNumber,
+    direction: Direction,
+    address: ByteAddress,
+    length: u64,
+    data: u32,
+) -> Outcome
+    ensures { λ r. ⌜ r ≡ dmaOf sizes (now (entries .entry)) (now (memory .entry)) (now (interrupts .entry)) (at (now (state .entry)) (stopWord pe)) pe direction address length «data» ⌝ }
+{
+    let stop = endpoints::stop_word(state, pe);
+    if endpoints::dma_stopped(stop) {
+        return outcome::refused(Reason::DmaStopped);
+    }
+    dma_by_class(
+        sizes,
+        entries,
+        memory,
+        interrupts,
+        pe,
+        direction,
+        address,
+        length,
+        data,
+    )
+}
+
+pub(crate) fn by_requester(
+    sizes: Sizes,
+    requesters: &[u16],
+    entries: &[u64],
+    memory: &[u64],
+    interrupts: &[u64],
+    state: &[u64],
+    requester: u64,
+    direction: Direction,
+    address: ByteAddress,
+    length: u64,
+    data: u32,
+) -> Outcome
+    requires { ⌜ sizes .pes ≤ 256 ⌝ }
+    ensures { λ r. ⌜ r ≡ settledOn (tables sizes (now (requesters .entry)) (now (entries .entry)) [] [] []) (now (memory .entry)) (live (now (state .entry)) (now (interrupts .entry))) (Dma requester direction address length «data») ⌝ }
+{
+    match owner::of_requester(sizes, requesters, requester) {
+        Owner::Of(pe) => {
+            return dma_of(
+                sizes,
+                entries,
+                memory,
+                interrupts,
+                state,
+                pe,
+                direction,
+                address,
+                length,
+                data,
+            );
+        }
+        Owner::Nobody(reason) => {
+            return outcome::refused(reason);
+        }
+    }
+}
