@@ -21,7 +21,8 @@ use Rattle.kinds.specs.declared.request.Request.{Request}
 use Rattle.isolation.specs.Isolation.{isolation}
 use Rattle.profile.specs.Freeze.{vectorIn, froze, released}
 use Rattle.profile.specs.Msi.{stored}
-use Rattle.profile.specs.Step.{owner, act, actBy, decidedBy, decided, after}
+use Rattle.profile.specs.Step.{act, actBy, decidedBy, decided, after}
+use Rattle.profile.specs.Owner.{owner}
 use Rattle.profile.specs.Tables.{Tables, Live, lengths, sized, mostPes}
 use Rattle.sizes.specs.PartsLaws.{sized-pes}
 use Rattle.decision.specs.Promise.{knownOwner}

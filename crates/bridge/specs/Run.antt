@@ -16,7 +16,8 @@ use Rattle.kinds.specs.declared.answer.Answer.the-variants.{Refuse}
 use Rattle.kinds.specs.declared.answer.Reason.the-variants.{TableLength, BadRequest}
 use Rattle.kinds.specs.declared.lookup.Owner.{Owner}
 use Rattle.kinds.specs.declared.lookup.Owner.the-variants.{Nobody}
-use Rattle.profile.specs.Step.{owner, answered, after}
+use Rattle.profile.specs.Step.{answered, after}
+use Rattle.profile.specs.Owner.{owner}
 use Rattle.profile.specs.Tables.{Tables, Live, lengths, sized}
 use Rattle.bridge.specs.Layout.{requestWords, answerWords, decodedAt, written}
 use Rattle.bridge.specs.declared.layout.Decoded.{Decoded}

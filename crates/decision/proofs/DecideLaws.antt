@@ -23,8 +23,10 @@ use Rattle.kinds.specs.declared.request.Request.{Request}
 use Rattle.kinds.specs.declared.request.Request.the-variants.{Dma, End, Priority}
 use Rattle.profile.specs.Entry.{classOf, half, entryIn}
 use Rattle.profile.specs.Freeze.{stopWord, dmaStopped}
-use Rattle.profile.specs.Msi.{interruptIn, number32, number64, msiFormed, delivered, msi, onGood, ends, prioritized}
-use Rattle.profile.specs.Step.{owner, ofRequester, ofInterrupt, ask, finish, settled}
+use Rattle.profile.specs.Msi.{interruptIn, number32, number64, msiFormed, delivered, msi}
+use Rattle.profile.specs.Firmware.{onGood, ends, prioritized}
+use Rattle.profile.specs.Step.{ask, finish, settled}
+use Rattle.profile.specs.Owner.{owner, ofRequester, ofInterrupt}
 use Rattle.profile.specs.Tables.{Tables, Live}
 use Rattle.profile.specs.Walk.{translated}
 use Rattle.decision.specs.ByValue.{classed, dmaOf, dma-is}

@@ -17,7 +17,7 @@ use Rattle.kinds.specs.declared.record.Sizes.{Sizes}
 use Rattle.kinds.specs.declared.request.Request.{Request}
 use Rattle.kinds.specs.declared.request.Request.the-variants.{Load, Store}
 use Rattle.profile.specs.Msi.{interruptIn}
-use Rattle.profile.specs.Step.{ofInterrupt, ofHit, owner}
+use Rattle.profile.specs.Owner.{ofInterrupt, ofHit, owner}
 use Rattle.profile.specs.Tables.{Tables, Live, named, mostPes}
 use Rattle.profile.specs.Windows.{route}
 use Rattle.decision.specs.Promise.{knownOwner}

@@ -24,7 +24,8 @@ use Rattle.kinds.specs.declared.request.Part.{Part}
 use Rattle.kinds.specs.declared.request.Request.{Request}
 use Rattle.kinds.specs.declared.request.Request.the-variants.{Dma, Load, Store, Error, Clear, End, Priority}
 use Rattle.profile.specs.Freeze.{stopWord}
-use Rattle.profile.specs.Step.{formed, ofHit, owner, accessed, ask, finish, settled, decidedBy, decided}
+use Rattle.profile.specs.Step.{formed, accessed, ask, finish, settled, decidedBy, decided}
+use Rattle.profile.specs.Owner.{ofHit, owner}
 use Rattle.profile.specs.Tables.{Tables, Live, lengths, sized}
 use Rattle.profile.specs.Windows.{route, onesOf}
 use Rattle.windows.specs.AccessLaws.{ones-formed}

@@ -13,7 +13,8 @@ use Rattle.kinds.specs.declared.lookup.Owner.the-variants.{Nobody}
 use Rattle.kinds.specs.declared.number.PeNumber.{PeNumber}
 use Rattle.kinds.specs.declared.outcome.Outcome.{Outcome}
 use Rattle.kinds.specs.declared.request.Request.{Request}
-use Rattle.profile.specs.Step.{owner, ask, finish, settled}
+use Rattle.profile.specs.Step.{ask, finish, settled}
+use Rattle.profile.specs.Owner.{owner}
 use Rattle.profile.specs.Tables.{Tables, Live, mostPes}
 
 abbrev pub outcomeOf : Tables → List ℕ → Live → PeNumber → Request → Outcome

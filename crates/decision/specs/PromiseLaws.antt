@@ -10,7 +10,7 @@ use Rattle.kinds.specs.declared.lookup.Hit.the-variants.{At, Miss}
 use Rattle.kinds.specs.declared.record.Sizes.{Sizes}
 use Rattle.kinds.specs.declared.request.Request.{Request}
 use Rattle.kinds.specs.declared.request.Request.the-variants.{Dma, Load, Store, Error, Clear, End, Priority}
-use Rattle.profile.specs.Step.{ofHit, owner}
+use Rattle.profile.specs.Owner.{ofHit, owner}
 use Rattle.profile.specs.Tables.{Tables}
 use Rattle.profile.specs.Windows.{route}
 use Rattle.decision.specs.Tables.{tables, live}

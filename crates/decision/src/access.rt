@@ -12,7 +12,7 @@ use windows;
 ghost use mathlib.Core.Path.{_≡_};
 ghost use mathlib.Core.List.{[]};
 ghost use Prim.Native.Nat.{_≤_};
-ghost use Rattle.profile.specs.Step.{ofHit};
+ghost use Rattle.profile.specs.Owner.{ofHit};
 ghost use Rattle.decision.specs.ByValue.{accessedBy};
 ghost use Rattle.decision.specs.Tables.{tables};
 

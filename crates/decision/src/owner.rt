@@ -12,7 +12,7 @@ ghost use mathlib.Core.Path.{_≡_};
 ghost use mathlib.Core.List.{[]};
 ghost use Prim.Native.Nat.{_≤_};
 ghost use Rattle.profile.specs.Tables.{named};
-ghost use Rattle.profile.specs.Step.{ofRequester, ofInterrupt, ofHit, owner};
+ghost use Rattle.profile.specs.Owner.{ofRequester, ofInterrupt, ofHit, owner};
 ghost use Rattle.decision.specs.Promise.{knownOwner};
 ghost use Rattle.decision.specs.Tables.{tables, live};
 

@@ -26,7 +26,8 @@ use Rattle.kinds.specs.declared.outcome.Effect.the-variants as effect
 use Rattle.kinds.specs.declared.outcome.Outcome.{Outcome}
 use Rattle.kinds.specs.declared.record.Interrupt.{Interrupt}
 use Rattle.kinds.specs.declared.request.Direction.{Direction}
-use Rattle.profile.specs.Msi.{interruptIn, stored, ranged, isWrite, msiFormed, presents, arrived, announced, arrives, delivered, onGood}
+use Rattle.profile.specs.Msi.{interruptIn, stored, ranged, isWrite, msiFormed, presents, arrived, announced, arrives, delivered}
+use Rattle.profile.specs.Firmware.{onGood}
 
 module _ {b : Bool} (d : Direction) (a : ByteAddress) (n : ℕ) (q : b ≡ isWrite d) where
   pub write-formed : b ≡ true → n ≡ 4 → eqb (a .0 % 4) 0 ≡ msiFormed d a n

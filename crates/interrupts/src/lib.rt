@@ -15,7 +15,8 @@ ghost use lib.Bits.{bitOr};
 ghost use Rattle.kinds.specs.declared.answer.Reason.the-variants.{MsiRefused, BadFirmware};
 ghost use Rattle.kinds.specs.declared.outcome.Effect.the-variants as effect;
 ghost use Rattle.kinds.specs.Outcome.{failed, refused, done};
-ghost use Rattle.profile.specs.Msi.{interruptIn, stored, ranged, number32, number64, isWrite, msiFormed, presents, arrives, delivered, onGood, ends, prioritized};
+ghost use Rattle.profile.specs.Msi.{interruptIn, stored, ranged, number32, number64, isWrite, msiFormed, presents, arrives, delivered};
+ghost use Rattle.profile.specs.Firmware.{onGood, ends, prioritized};
 
 // The words of an interrupt.
 const WORDS: usize = 4;

@@ -18,7 +18,8 @@ use Rattle.kinds.specs.declared.outcome.Effect.the-variants.{Keep}
 use Rattle.kinds.specs.declared.outcome.Outcome.{Outcome}
 use Rattle.kinds.specs.declared.request.Request.{Request}
 use Rattle.profile.specs.Tables.{Tables, Live, sized}
-use Rattle.profile.specs.Step.{owner, act, actBy, decidedBy, decided, answered, after}
+use Rattle.profile.specs.Step.{act, actBy, decidedBy, decided, answered, after}
+use Rattle.profile.specs.Owner.{owner}
 use Rattle.profile.specs.Agree.{belongs, Closed}
 use Rattle.profile.specs.AgreeLaws.{alike-refl, same-refl, held-refl}
 use Rattle.isolation.specs.Unwind.{mine, replies, chosen-twice, seen-chosen}

@@ -17,10 +17,12 @@ use Rattle.kinds.specs.declared.answer.Answer.{Answer}
 use Rattle.kinds.specs.declared.number.PeNumber.{PeNumber}
 use Rattle.kinds.specs.declared.request.Request.{Request}
 use Rattle.profile.specs.Tables.{Tables, Live}
-use Rattle.profile.specs.Step.{owner, decided, answered, after}
+use Rattle.profile.specs.Step.{decided, answered, after}
+use Rattle.profile.specs.Owner.{owner}
 use Rattle.profile.specs.Agree.{owned, belongs, Closed, Same, Alike, Held}
 use Rattle.profile.specs.AgreeLaws.{same-sym, same-trans}
-use Rattle.profile.specs.RequestLaws.{vector-agrees, owner-keeps, answered-agrees, after-agrees, after-unseen}
+use Rattle.profile.specs.OwnerLaws.{owner-keeps}
+use Rattle.profile.specs.RequestLaws.{vector-agrees, answered-agrees, after-agrees, after-unseen}
 use Rattle.isolation.specs.Unwind.{Machine, Laws, mine, seen, end, chosen, mine-chosen, unwound-same}
 use Rattle.isolation.specs.View.{Bridge, Written, View, Agreed, agreed, written}
 

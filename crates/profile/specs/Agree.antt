@@ -28,7 +28,7 @@ use Rattle.profile.specs.Freeze.{vector}
 use Rattle.profile.specs.Entry.{classOf}
 use Rattle.profile.specs.Walk.{reads}
 use Rattle.profile.specs.Msi.{interrupt}
-use Rattle.profile.specs.Step.{owner}
+use Rattle.profile.specs.Owner.{owner}
 
 abbrev pub owned : (PeNumber → Bool) → Owner → Bool
 owned G (Of p) = G p

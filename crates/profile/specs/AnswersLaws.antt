@@ -40,9 +40,11 @@ use Rattle.profile.specs.Tables.{Tables, Live, lengths, sized, named}
 use Rattle.profile.specs.Freeze.{stopWord, mmioStopped, dmaStopped}
 use Rattle.profile.specs.Entry.{classOf, half, offset, entry, pageSize, tableGood, bypass, bypassGood, pagesGood, inBypass, walks, unwalked}
 use Rattle.profile.specs.Walk.{allows, arriveAt}
-use Rattle.profile.specs.Msi.{interrupt, ranged, number32, number64, msiFormed, presents, announced, delivered, msi, onGood, ends, prioritized}
+use Rattle.profile.specs.Msi.{interrupt, ranged, number32, number64, msiFormed, presents, announced, delivered, msi}
+use Rattle.profile.specs.Firmware.{onGood, ends, prioritized}
 use Rattle.profile.specs.Windows.{route, onesOf}
-use Rattle.profile.specs.Step.{Asked, Ready, Walk, formed, ofRequester, ofInterrupt, ofHit, owner, served, accessed, ask, finish, act, settled, decidedBy, actBy, decided, answered, after}
+use Rattle.profile.specs.Step.{Asked, Ready, Walk, formed, served, accessed, ask, finish, act, settled, decidedBy, actBy, decided, answered, after}
+use Rattle.profile.specs.Owner.{ofRequester, ofInterrupt, ofHit, owner}
 
 unfoldable pub shown : Answer → Bool
 shown a = not (eqb (numbered a .reason) 12) && not (eqb (numbered a .reason) 13)

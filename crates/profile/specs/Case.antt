@@ -31,9 +31,11 @@ use Rattle.profile.specs.Tables.{Tables, Live, sized, named}
 use Rattle.profile.specs.Freeze.{marked, frozen, released}
 use Rattle.profile.specs.Entry.{classOf, pageSize, span, aligned, tableGood, bypassGood, pagesGood, walks, inBypass, unwalked}
 use Rattle.profile.specs.Walk.{leads, turn, walkFrom, allows, arriveAt}
-use Rattle.profile.specs.Msi.{ranged, number32, number64, msiFormed, presents, arrived, announced, delivered, msi, ends, prioritized}
+use Rattle.profile.specs.Msi.{ranged, number32, number64, msiFormed, presents, arrived, announced, delivered, msi}
+use Rattle.profile.specs.Firmware.{ends, prioritized}
 use Rattle.profile.specs.Windows.{isPower, covers, segmentOf, m32Open, m64Open, m64Pe, m64, m64From, route, onesOf}
-use Rattle.profile.specs.Step.{accessFormed, dmaFormed, formed, owner, served, accessed, ask, finish, act, settled, decidedBy, actBy, answered, after}
+use Rattle.profile.specs.Step.{accessFormed, dmaFormed, formed, served, accessed, ask, finish, act, settled, decidedBy, actBy, answered, after}
+use Rattle.profile.specs.Owner.{owner}
 
 pub record Case : Type 0 where
   pub tables : Tables

@@ -7,12 +7,15 @@ pub mod Case
 pub mod Cases
 pub mod DmaCases
 pub mod Entry
+pub mod Firmware
 pub mod Freeze
 pub mod FreezeCases
 pub mod Limits
 pub mod Msi
 pub mod MsiCases
 pub mod Opened
+pub mod Owner
+pub mod OwnerLaws
 pub mod Reasons
 pub mod RequestLaws
 pub mod Step

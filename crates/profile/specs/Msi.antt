@@ -1,4 +1,4 @@
--- 01, 'MSI', and the firmware requests of an interrupt under 'Firmware'.
+-- 01, 'MSI'.
 --     interruptIn l i     the record of interrupt i in the interrupts l; interrupt s i: in what is written
 --     stored p i n b l    the interrupts l after PE p wrote priority n and state b of interrupt i
 --     ranged e            server below 2 ^ 24, priority at most 255, state at most 3
@@ -9,9 +9,6 @@
 --     arrives i e         what an arriving MSI comes to
 --     delivered p a i e   an MSI of PE p with number i, whose record is e
 --     msi f s p a i ok    an MSI of PE p with number i, of good form or not
---     onGood e o          o where the words of e are in their ranges, else 14
---     ends i e            the end of an interrupt
---     prioritized i n e   its priority set to n, written first; from 255 to another with Q set, Q is cleared and an MSI is taken as arrived
 -- Assumes nothing.
 use mathlib.Core.Bool.{Bool, true, false, cond, not, _&&_}
 use mathlib.Core.List.{List}
@@ -19,14 +16,13 @@ use Prim.Native.Nat.{ℕ, _+_, _*_, _/_, _%_, _^_}
 use lib.Bits.{bitOr}
 use lib.Dec.{leb, ltb, eqb}
 use lib.ListN.{set}
-use Rattle.kinds.specs.Outcome.{refused, failed, done}
+use Rattle.kinds.specs.Outcome.{failed}
 use Rattle.kinds.specs.Words.{at}
 use Rattle.kinds.specs.declared.answer.Answer.{Answer}
 use Rattle.kinds.specs.declared.answer.Answer.the-variants.{Msi, Held}
-use Rattle.kinds.specs.declared.answer.Reason.the-variants.{MsiRefused, BadFirmware}
+use Rattle.kinds.specs.declared.answer.Reason.the-variants.{MsiRefused}
 use Rattle.kinds.specs.declared.number.ByteAddress.{ByteAddress}
 use Rattle.kinds.specs.declared.number.PeNumber.{PeNumber}
-use Rattle.kinds.specs.declared.outcome.Effect.the-variants.{Keep}
 use Rattle.kinds.specs.declared.outcome.Effect.the-variants as effect
 use Rattle.kinds.specs.declared.outcome.Outcome.{Outcome}
 use Rattle.kinds.specs.declared.record.Interrupt.{Interrupt}
@@ -87,21 +83,3 @@ delivered p a i e =
 
 unfoldable pub msi : Tables → Live → PeNumber → ByteAddress → (i : ℕ) → Bool → Outcome
 msi f s p a i ok = cond (ok && ltb i (f .sizes .interrupts)) (delivered p a i (interrupt s i)) (failed MsiRefused a 0)
-
--- a firmware request of an interrupt, whose number and PE are good: 14 where another word is out of its range
-abbrev pub onGood : Interrupt → Outcome → Outcome
-onGood e o = cond (ranged e) o (refused BadFirmware)
-
--- P = 0; P = 1 and Q = 0; both set and priority 255; both set
-unfoldable pub ends : ℕ → Interrupt → Outcome
-ends i e =
-    cond (ltb (e .bits) 2) (done Keep)
-    (cond (eqb (e .bits) 2) (done (effect.Interrupt i (e .priority) 0))
-    (cond (eqb (e .priority) 255) (done (effect.Interrupt i (e .priority) 1))
-    (record { answer = Msi i (e .server) (e .priority); effect = effect.Interrupt i (e .priority) 2 })))
-
-unfoldable pub prioritized : ℕ → (priority : ℕ) → Interrupt → Outcome
-prioritized i n e =
-    cond (eqb (e .priority) 255 && not (eqb n 255) && eqb (e .bits % 2) 1)
-    (arrives i (record { pe = e .pe; server = e .server; priority = n; bits = e .bits / 2 * 2 }))
-    (done (effect.Interrupt i n (e .bits)))

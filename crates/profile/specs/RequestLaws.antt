@@ -1,8 +1,5 @@
--- The laws of one request, on two bridges that agree in what a group sees. Each kind of request is looked at in the laws of `owner` and
--- of `ask`, once in each; nothing below them knows the kinds.
---     owner-agrees        it belongs to the same PE, or to nobody with the same refusal, on both
---     owner-below         a PE that a request belongs to is below N
---     owner-keeps         no request changes what belongs to whom
+-- The laws of one request, on two bridges that agree in what a group sees. Each kind of request is looked at in the laws of `owner`
+-- (OwnerLaws) and of `ask`, once in each; nothing below them knows the kinds.
 --     ask-agrees          a member's request comes to the same on both, as far as no memory is read
 --     ask-walks           the page table of a PE is walked only for an address of the DMA class, and by an entry that walks
 --     finish-agrees       and to the same by the walk
@@ -24,8 +21,7 @@ use Rattle.kinds.specs.Tests.{by-cases, clash, and-right}
 use Rattle.kinds.specs.Outcome.{refused}
 use Rattle.kinds.specs.Words.{at}
 use Rattle.kinds.specs.declared.answer.Answer.{Answer}
-use Rattle.kinds.specs.declared.answer.Reason.{Reason}
-use Rattle.kinds.specs.declared.answer.Reason.the-variants.{UnknownRequester, DmaStopped, NoWindow, BadFirmware}
+use Rattle.kinds.specs.declared.answer.Reason.the-variants.{DmaStopped}
 use Rattle.kinds.specs.declared.lookup.Hit.{Hit}
 use Rattle.kinds.specs.declared.lookup.Hit.the-variants.{At, Miss}
 use Rattle.kinds.specs.declared.lookup.Owner.{Owner}
@@ -35,7 +31,6 @@ use Rattle.kinds.specs.declared.number.PeNumber.{PeNumber}
 use Rattle.kinds.specs.declared.outcome.Effect.{Effect}
 use Rattle.kinds.specs.declared.outcome.Outcome.{Outcome}
 use Rattle.kinds.specs.declared.record.Interrupt.{Interrupt}
-use Rattle.kinds.specs.declared.record.Sizes.{Sizes}
 use Rattle.kinds.specs.declared.record.TranslationEntry.{TranslationEntry}
 use Rattle.kinds.specs.declared.request.AddressClass.the-variants as class
 use Rattle.kinds.specs.declared.request.AddressClass as classes
@@ -46,61 +41,14 @@ use Rattle.profile.specs.Tables.{Tables, Live, named, lengths, sized}
 use Rattle.profile.specs.Freeze.{stopWord, dmaStopped, vector}
 use Rattle.profile.specs.Entry.{classOf, half, entry, pageSize, pageOf, walks, unwalked}
 use Rattle.profile.specs.Walk.{walk, arrive}
-use Rattle.profile.specs.Msi.{interrupt, delivered, msi, onGood, ends, prioritized}
-use Rattle.profile.specs.Windows.{route}
-use Rattle.profile.specs.Step.{ofRequester, ofInterrupt, ofHit, owner, Asked, Ready, Walk, served, accessed, ask, finish, settled, decidedBy, actBy, decided, answered, after}
+use Rattle.profile.specs.Msi.{interrupt, delivered, msi}
+use Rattle.profile.specs.Firmware.{onGood, ends, prioritized}
+use Rattle.profile.specs.Step.{Asked, Ready, Walk, served, accessed, ask, finish, settled, decidedBy, actBy, decided, answered, after}
+use Rattle.profile.specs.Owner.{ofInterrupt, owner}
 use Rattle.profile.specs.Agree.{owned, belongs, Closed, Same, Alike, Held}
 use Rattle.profile.specs.AgreeLaws.{same-refl, stop-agrees, interrupt-agrees, half-agrees, walk-agrees}
-use Rattle.profile.specs.ActLaws.{act-unseen, act-agrees, act-keeps}
-
--- ---- the owner
-
-abbrev pub Below : ℕ → Owner → Type 0
-Below n (Of p) = p .0 < n
-Below n (Nobody r) = Unit {0}
-
--- a number that is taken for a PE, after a test or, with b true, after none
-named-below : (b : Bool) (r : Reason) (z : Sizes) (n : ℕ) → Below (z .pes) (cond b (named r z n) (Nobody r))
-unfolding named
-named-below false r z n = tt
-named-below true r z n = by-cases (ltb n (z .pes)) (λ o. rw o (ltb-true n (z .pes) o)) (λ o. rw o tt)
-
-module _ (f : Tables) where
-  requester-below : (r : ℕ) → Below (f .sizes .pes) (ofRequester f r)
-  requester-below r = named-below (ltb r (f .sizes .requesters)) UnknownRequester (f .sizes) (at (f .requesters) r)
-
-  interrupt-below : (s : Live) (i : ℕ) → Below (f .sizes .pes) (ofInterrupt f s i)
-  interrupt-below s i = named-below (ltb i (f .sizes .interrupts)) BadFirmware (f .sizes) (interrupt s i .pe)
-
-  hit-below : (h : Hit) → Below (f .sizes .pes) (ofHit f h)
-  hit-below (At n c) = named-below true NoWindow (f .sizes) n
-  hit-below Miss = tt
-
-  pub owner-below : (s : Live) (q : Request) → Below (f .sizes .pes) (owner f s q)
-  unfolding owner
-  owner-below s (Dma r d a n v) = requester-below r
-  owner-below s (Load a w) = hit-below (route (f .windows) (f .segments) a)
-  owner-below s (Store a w) = hit-below (route (f .windows) (f .segments) a)
-  owner-below s (Error r) = requester-below r
-  owner-below s (Clear p c) = named-below true BadFirmware (f .sizes) p
-  owner-below s (End i) = interrupt-below s i
-  owner-below s (Priority i n) = interrupt-below s i
-
-  acted-keeps : (o : Owner) (e : Effect) (s : Live) (i : ℕ) → interrupt (actBy f o e s) i .pe ≡ interrupt s i .pe
-  unfolding actBy
-  acted-keeps (Of p) e s i = act-keeps f p e s i
-  acted-keeps (Nobody r) e s i = refl
-
-  -- whatever effect is done, at whatever PE
-  pub owner-keeps : (o : Owner) (e : Effect) (s : Live) (q : Request) → owner f (actBy f o e s) q ≡ owner f s q
-  unfolding owner
-  owner-keeps o e s (Dma r d a n v) = refl
-  owner-keeps o e s (Load a w) = refl
-  owner-keeps o e s (Store a w) = refl
-  owner-keeps o e s (Error r) = refl
-  owner-keeps o e s (Clear p c) = refl
-  owner-keeps o e s (End i) = rw (acted-keeps o e s i)
-  owner-keeps o e s (Priority i n) = rw (acted-keeps o e s i)
+use Rattle.profile.specs.ActLaws.{act-unseen, act-agrees}
+use Rattle.profile.specs.OwnerLaws.{Below, owner-below, route-agrees, owner-agrees}
 
 -- ---- two bridges
 
@@ -108,28 +56,7 @@ module _ {G : PeNumber → Bool} {f g : Tables} (w : Alike G f g) where
   pub vector-agrees : (p : PeNumber) → vector f p ≡ vector g p
   vector-agrees p = rw (w .peers)
 
-  route-agrees : (a : ByteAddress) → route (f .windows) (f .segments) a ≡ route (g .windows) (g .segments) a
-  route-agrees a = rw (w .windows, w .segments)
-
-  hit-agrees : (h : Hit) → ofHit f h ≡ ofHit g h
-  hit-agrees (At n c) = rw (w .sizes)
-  hit-agrees Miss = refl
-
   module _ {s t : Live} (r : Same G (f .sizes .interrupts) s t) where
-    interrupt-owner-agrees : (i : ℕ) → ofInterrupt f s i ≡ ofInterrupt g t i
-    interrupt-owner-agrees i =
-        rw (← w .sizes) (by-cases (ltb i (f .sizes .interrupts)) (λ o. rw (o, r .interrupt-pe i (ltb-true i (f .sizes .interrupts) o))) (λ o. rw o))
-
-    pub owner-agrees : (q : Request) → owner f s q ≡ owner g t q
-    unfolding owner
-    owner-agrees (Dma n d a l v) = rw (w .sizes, w .requesters)
-    owner-agrees (Load a n) = ap (ofHit f) (route-agrees a) ∙ hit-agrees (route (g .windows) (g .segments) a)
-    owner-agrees (Store a n) = ap (ofHit f) (route-agrees a) ∙ hit-agrees (route (g .windows) (g .segments) a)
-    owner-agrees (Error n) = rw (w .sizes, w .requesters)
-    owner-agrees (Clear p c) = rw (w .sizes)
-    owner-agrees (End i) = interrupt-owner-agrees i
-    owner-agrees (Priority i n) = interrupt-owner-agrees i
-
     -- an interrupt whose firmware requests are the group's
     group-interrupt : (i : ℕ) → owned G (ofInterrupt f s i) ≡ true → interrupt s i ≡ interrupt t i
     unfolding named
@@ -180,8 +107,8 @@ module _ {G : PeNumber → Bool} {f g : Tables} (w : Alike G f g) where
     unfolding ask owner
     ask-agrees (Dma n d a l v) o p u =
         rw (dma-bit-agrees p u) (ap (cond (dmaStopped (at (t .state) (stopWord p))) (Ready (refused DmaStopped))) (served-agrees (classOf a) p u d a l v))
-    ask-agrees (Load a n) o p u = rw (← route-agrees a, accessed-agrees p u)
-    ask-agrees (Store a n) o p u = rw (← route-agrees a, accessed-agrees p u)
+    ask-agrees (Load a n) o p u = rw (← route-agrees w a, accessed-agrees p u)
+    ask-agrees (Store a n) o p u = rw (← route-agrees w a, accessed-agrees p u)
     ask-agrees (Error n) o p u = refl
     ask-agrees (Clear k c) o p u = refl
     ask-agrees (End i) o p u = ap (λ (e : Interrupt). Ready (onGood e (ends i e))) (group-interrupt i o)

@@ -1,6 +1,5 @@
 -- One request, from its checks to what it leaves: 01, the order of checks of each kind of request.
 --     formed q            not reason 2: it depends on the request alone
---     owner f s q         the PE that the request belongs to, or nobody with reason 3, 10 or 14
 --     ask f s p q         what the request of PE p comes to, as far as no memory is read
 --     finish f m p x      what it comes to by a walk: the only reader of memory
 --     act f p e s         effect e at PE p: it writes, and decides nothing
@@ -11,14 +10,14 @@
 use mathlib.Core.Bool.{Bool, true, cond, _&&_, _||_}
 use mathlib.Core.List.{List}
 use Prim.Native.Nat.{ℕ, _+_, _%_}
-use lib.Dec.{leb, ltb, eqb}
+use lib.Dec.{leb, eqb}
 use lib.ListN.{length}
 use Rattle.kinds.specs.Answer.{reasonNumber}
 use Rattle.kinds.specs.Outcome.{refused, failed, done}
 use Rattle.kinds.specs.Words.{at}
 use Rattle.kinds.specs.declared.answer.Answer.{Answer}
 use Rattle.kinds.specs.declared.answer.Answer.the-variants.{Pass, Ones, Drop}
-use Rattle.kinds.specs.declared.answer.Reason.the-variants.{TableLength, BadRequest, UnknownRequester, DmaStopped, AddressClass, NoWindow, ErrorMessage, BadFirmware}
+use Rattle.kinds.specs.declared.answer.Reason.the-variants.{TableLength, BadRequest, DmaStopped, AddressClass, ErrorMessage}
 use Rattle.kinds.specs.declared.lookup.Hit.{Hit}
 use Rattle.kinds.specs.declared.lookup.Hit.the-variants.{At, Miss}
 use Rattle.kinds.specs.declared.lookup.Owner.{Owner}
@@ -33,11 +32,13 @@ use Rattle.kinds.specs.declared.request.AddressClass as classes
 use Rattle.kinds.specs.declared.request.Direction.{Direction}
 use Rattle.kinds.specs.declared.request.Request.{Request}
 use Rattle.kinds.specs.declared.request.Request.the-variants.{Dma, Load, Store, Error, Clear, End, Priority}
-use Rattle.profile.specs.Tables.{Tables, Live, named, lengths, sized}
+use Rattle.profile.specs.Tables.{Tables, Live, lengths, sized}
+use Rattle.profile.specs.Owner.{owner}
 use Rattle.profile.specs.Freeze.{stopWord, mmioStopped, dmaStopped, vector, froze, released}
 use Rattle.profile.specs.Entry.{classOf, half, entry, pageSize, pageOf, walks, unwalked}
 use Rattle.profile.specs.Walk.{walk, arrive}
-use Rattle.profile.specs.Msi.{interrupt, stored, onGood, number32, number64, msiFormed, msi, ends, prioritized}
+use Rattle.profile.specs.Msi.{interrupt, stored, number32, number64, msiFormed, msi}
+use Rattle.profile.specs.Firmware.{onGood, ends, prioritized}
 use Rattle.profile.specs.Windows.{route, onesOf}
 
 -- width 1, 2, 4 or 8, and the address a multiple of it
@@ -56,25 +57,6 @@ formed (Error r) = true
 formed (Clear p c) = true
 formed (End i) = true
 formed (Priority i n) = leb n 255
-
-abbrev pub ofRequester : Tables → ℕ → Owner
-ofRequester f r = cond (ltb r (f .sizes .requesters)) (named UnknownRequester (f .sizes) (at (f .requesters) r)) (Nobody UnknownRequester)
-
-abbrev pub ofInterrupt : Tables → Live → ℕ → Owner
-ofInterrupt f s i = cond (ltb i (f .sizes .interrupts)) (named BadFirmware (f .sizes) (interrupt s i .pe)) (Nobody BadFirmware)
-
-abbrev pub ofHit : Tables → Hit → Owner
-ofHit f (At n c) = named NoWindow (f .sizes) n
-ofHit f Miss = Nobody NoWindow
-
-unfoldable pub owner : Tables → Live → Request → Owner
-owner f s (Dma r d a n v) = ofRequester f r
-owner f s (Load a w) = ofHit f (route (f .windows) (f .segments) a)
-owner f s (Store a w) = ofHit f (route (f .windows) (f .segments) a)
-owner f s (Error r) = ofRequester f r
-owner f s (Clear p c) = named BadFirmware (f .sizes) p
-owner f s (End i) = ofInterrupt f s i
-owner f s (Priority i n) = ofInterrupt f s i
 
 -- all that is known of a request before memory is read: its outcome, or that the page table of its PE is walked
 pub data Asked : Type 0 where

@@ -8,8 +8,6 @@ ghost use Rattle.translation.specs.declared.ask.Asked.the-variants.{Walk
 use crate::ask::Asked;
 use crate::ask::ask;
 use crate::entry::offset_of;
-use kinds::outcome::failed;
-use kinds::outcome::passed;
 use crate::walk::walk;
 use kinds::answer::Reason;
 use kinds::lookup::Found;
@@ -19,6 +17,8 @@ use kinds::number::PeNumber;
 use kinds::number::byte_address;
 use kinds::number::page_number;
 use kinds::outcome::Outcome;
+use kinds::outcome::failed;
+use kinds::outcome::passed;
 use kinds::record::TranslationEntry;
 use kinds::request::Direction;
 

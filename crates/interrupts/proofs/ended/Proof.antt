@@ -1,4 +1,4 @@
-use Rattle.profile.specs.Msi.{ends}
+use Rattle.profile.specs.Firmware.{ends}
 use Rattle.kinds.specs.Tests.{tests}
 use borrow.Author.Needs.{needs}
 use Rattle.interrupts.proofs.ended.Statement.{statement}

@@ -1,4 +1,4 @@
-use Rattle.profile.specs.Msi.{prioritized}
+use Rattle.profile.specs.Firmware.{prioritized}
 use Rattle.kinds.specs.Tests.{tests}
 use borrow.Author.Needs.{needs}
 use Rattle.interrupts.proofs.prioritize.Statement.{statement}

@@ -1,4 +1,5 @@
-use Rattle.profile.specs.Step.{owner, ask, finish}
+use Rattle.profile.specs.Step.{ask, finish}
+use Rattle.profile.specs.Owner.{owner}
 use Rattle.decision.proofs.DecideLaws as laws
 use borrow.Author.Needs.{needs}
 use Rattle.decision.proofs.decide.error.Statement.{statement}

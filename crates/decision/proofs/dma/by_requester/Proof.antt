@@ -1,4 +1,4 @@
-use Rattle.profile.specs.Step.{owner}
+use Rattle.profile.specs.Owner.{owner}
 use Rattle.decision.proofs.DecideLaws as laws
 use borrow.Author.Needs.{needs}
 use Rattle.decision.proofs.dma.by_requester.Statement.{statement}
