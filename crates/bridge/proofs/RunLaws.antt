@@ -17,6 +17,7 @@ use Rattle.isolation.specs.Isolation.{isolation}
 use Rattle.profile.specs.Tables.{Tables, Live, lengths, sized}
 use Rattle.bridge.specs.Layout.{requestWords, answerWords, decoded, decodedAt, stored, written}
 use Rattle.bridge.specs.Promise.{Handled, Replied, RanAll}
+use Rattle.bridge.specs.RunIsolation.{run-isolation}
 use Rattle.bridge.specs.Run.{answeredAs, afterAs, Ran, ran, ranOne, ranTo, served}
 use Rattle.decision.specs.Tables.{live}
 use Rattle.bridge.specs.declared.layout.Decoded.{Decoded}
@@ -79,4 +80,4 @@ module _ (f : Tables) (m w : List ℕ) (s : Live) (l₀ : List ℕ) where
   all-ran {n = n} {k = k} e a b h =
       let z : k ≡ served w l₀ = omega (arith, e) in
       let r = rw z at h in
-      record { count = e; leaves = ap (λ (x : Ran). x .live) r; answers = ap (λ (x : Ran). x .answers) r; isolation = isolation }
+      record { count = e; leaves = ap (λ (x : Ran). x .live) r; answers = ap (λ (x : Ran). x .answers) r; isolation = isolation; words-isolation = run-isolation }

@@ -5,6 +5,7 @@
 --                                 3 error: requester; 4 clear: PE, part (0 mmio, 1 dma, 2 record); 5 end: interrupt; 6 priority: interrupt, priority
 --     decodedAt l k               request k of the list of words l
 --     numberList x                the 8 words of an answer: name, reason, value, words read, PE, server, priority, as `numbered` has them, and 0
+--     wordsAt x k                 the words of answer k in the answer words x
 --     written l k a               the list of words l with answer a written as its answer k
 -- Assumes nothing.
 use mathlib.Core.Bool.{cond}
@@ -64,3 +65,8 @@ stored l i x =
 
 unfoldable pub written : List ℕ → ℕ → Answer → List ℕ
 written l k a = stored l (k * answerWords) (numbered a)
+
+abbrev pub wordsAt : List ℕ → ℕ → List ℕ
+wordsAt x k =
+    at x (k * answerWords) ∷ at x (k * answerWords + 1) ∷ at x (k * answerWords + 2) ∷ at x (k * answerWords + 3)
+    ∷ at x (k * answerWords + 4) ∷ at x (k * answerWords + 5) ∷ at x (k * answerWords + 6) ∷ at x (k * answerWords + 7) ∷ []

@@ -1,6 +1,7 @@
 -- The layout of answers loses nothing, and an answer is written where it belongs.
 --     reasonFrom n                the reason with number n; answerFrom x: the answer with numbers x
 --     numbered-injective          two answers with the same words are the same
+--     words-written, words-kept   the words of an answer once it is written, and once a later one is
 --     at-written                  the words of an answer that was written; written-keeps: all other words
 -- Assumes nothing.
 use mathlib.Core.Path.{_≡_, refl, sym, ap, _∙_}
@@ -12,7 +13,7 @@ use native.Mathlib.Omega.{arith}
 use lib.Dec.{eqb}
 use lib.ListN.{length, set, length-set}
 use lib.Seq.{getD-set-same, getD-set-other}
-use borrow.Author.Tests.{eqb-false}
+use borrow.Author.Tests.{eqb-false, ne-eqb}
 use Rattle.kinds.specs.Answer.{reasonNumber, numbered}
 use Rattle.kinds.specs.Words.{at}
 use Rattle.kinds.specs.declared.answer.Answer.{Answer}
@@ -20,7 +21,7 @@ use Rattle.kinds.specs.declared.answer.Answer.the-variants.{Pass, Msi, Held, On
 use Rattle.kinds.specs.declared.answer.Numbers.{Numbers}
 use Rattle.kinds.specs.declared.answer.Reason.{Reason}
 use Rattle.kinds.specs.declared.answer.Reason.the-variants.{TableLength, BadRequest, UnknownRequester, DmaStopped, AddressClass, BadEntry, OutsideWindow, TableWord, MsiRefused, NoWindow, MmioStopped, ErrorMessage, FrozenAsPeer, BadFirmware, OutsideMemory}
-use Rattle.bridge.specs.Layout.{numberList, stored, written, answerWords}
+use Rattle.bridge.specs.Layout.{numberList, wordsAt, stored, written, answerWords}
 
 reasons : List Reason
 reasons =
@@ -108,3 +109,32 @@ written-keeps l k a j o =
 pub length-written : (l : List ℕ) (k : ℕ) (a : Answer) → length (written l k a) ≡ length l
 unfolding written
 length-written l k a = simp length-set
+
+-- the words of answer j, once it is written
+pub words-written : (x : List ℕ) (j : ℕ) (a : Answer) → j * answerWords + answerWords ≤ length x → wordsAt (written x j a) j ≡ numberList (numbered a)
+words-written x j a h = rw (
+  rw add-zero at (at-written x j a 0 (omega arith) h),
+  at-written x j a 1 (omega arith) h,
+  at-written x j a 2 (omega arith) h,
+  at-written x j a 3 (omega arith) h,
+  at-written x j a 4 (omega arith) h,
+  at-written x j a 5 (omega arith) h,
+  at-written x j a 6 (omega arith) h,
+  at-written x j a 7 (omega arith) h,
+)
+
+-- and once a later one is
+word-kept : (x : List ℕ) (n : ℕ) (a : Answer) (j d : ℕ) → j < n → d < answerWords → at (written x n a) (j * answerWords + d) ≡ at x (j * answerWords + d)
+word-kept x n a j d h g = written-keeps x n a (j * answerWords + d) (ne-eqb ((j * answerWords + d) / answerWords) n (omega arith))
+
+pub words-kept : (x : List ℕ) (n : ℕ) (a : Answer) (j : ℕ) → j < n → wordsAt (written x n a) j ≡ wordsAt x j
+words-kept x n a j h = rw (
+  rw add-zero at (word-kept x n a j 0 h (omega arith)),
+  word-kept x n a j 1 h (omega arith),
+  word-kept x n a j 2 h (omega arith),
+  word-kept x n a j 3 h (omega arith),
+  word-kept x n a j 4 h (omega arith),
+  word-kept x n a j 5 h (omega arith),
+  word-kept x n a j 6 h (omega arith),
+  word-kept x n a j 7 h (omega arith),
+)

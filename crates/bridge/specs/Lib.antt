@@ -2,3 +2,5 @@ pub mod Layout
 pub mod LayoutLaws
 pub mod Promise
 pub mod Run
+pub mod RunIsolation
+pub mod RunLaws

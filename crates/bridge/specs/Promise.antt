@@ -18,6 +18,7 @@ use Rattle.isolation.specs.Isolation.{Isolation}
 use Rattle.profile.specs.Step.{answered, after}
 use Rattle.profile.specs.Tables.{Tables, Live}
 use Rattle.bridge.specs.Run.{answeredAs, afterAs, served, ranTo}
+use Rattle.bridge.specs.RunIsolation.{RunIsolation}
 use Rattle.bridge.specs.declared.layout.Decoded.{Decoded}
 
 abbrev pub isKeep : Effect → Bool
@@ -42,3 +43,4 @@ pub record RanAll (f : Tables) (m w : List ℕ) (s : Live) (l : List ℕ) (n : �
   pub leaves : t ≡ ranTo f m w s l (served w l) .live
   pub answers : k ≡ ranTo f m w s l (served w l) .answers
   pub isolation : Isolation
+  pub words-isolation : RunIsolation
