@@ -1,0 +1,5 @@
+pub mod Line
+pub mod LineCases
+pub mod LineLaws
+pub mod Name
+pub mod Word
