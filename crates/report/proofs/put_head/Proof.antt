@@ -1,0 +1,19 @@
+use Rattle.report.proofs.Laws as laws
+use borrow.Author.Needs.{needs}
+use Rattle.report.proofs.put_head.Statement.{statement}
+use Rattle.report.proofs.put_head.Tie as tie
+
+decimal-field-requires : tie.Need-decimal-field-requires
+decimal-field-requires c κs = search needs
+
+name-field-requires : tie.Need-name-field-requires
+name-field-requires c κs = search needs
+
+same-length : tie.Need-same-length
+same-length c = search needs
+
+returns : tie.Need-returns
+returns c = search (needs, laws.head-whole, laws.head-past)
+
+pub put-head-spec : {M : Type 1} → statement M
+put-head-spec = tie.close (tie.spec decimal-field-requires name-field-requires same-length returns)

@@ -1,0 +1,19 @@
+use Rattle.report.proofs.Laws as laws
+use borrow.Author.Needs.{needs}
+use Rattle.report.proofs.put_line.Statement.{statement}
+use Rattle.report.proofs.put_line.Tie as tie
+
+put-head-requires : tie.Need-put-head-requires
+put-head-requires c κs = search needs
+
+put-tail-requires : tie.Need-put-tail-requires
+put-tail-requires c κs = search needs
+
+same-length : tie.Need-same-length
+same-length c = search needs
+
+returns : tie.Need-returns
+returns c = search (laws.sets-then, laws.past-then)
+
+pub put-line-spec : {M : Type 1} → statement M
+put-line-spec = tie.close (tie.spec put-head-requires put-tail-requires same-length returns)

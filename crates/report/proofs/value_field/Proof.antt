@@ -1,0 +1,23 @@
+use Rattle.report.proofs.Laws as laws
+use borrow.Author.Needs.{needs}
+use Rattle.report.proofs.value_field.Statement.{statement}
+use Rattle.report.proofs.value_field.Tie as tie
+
+put-digits-requires : tie.Need-put-digits-requires
+put-digits-requires c κs = search needs
+
+add-put-byte : tie.Need-add-put-byte
+add-put-byte c = search needs
+
+put-byte-requires : tie.Need-put-byte-requires
+put-byte-requires c κs = search needs
+
+same-length : tie.Need-same-length
+same-length c = search needs
+
+returns : tie.Need-returns
+returns c = search (needs, laws.digits-ended, laws.digits-past)
+
+pub value-field-spec : {M : Type 1} → statement M
+value-field-spec =
+    tie.close (tie.spec put-digits-requires add-put-byte put-byte-requires same-length returns)

@@ -1,0 +1,30 @@
+use Rattle.report.proofs.Laws as laws
+use borrow.Author.Needs.{needs}
+use Rattle.report.proofs.write_header.Statement.{statement}
+use Rattle.report.proofs.write_header.Tie as tie
+
+returns : tie.Need-returns
+returns c = search (laws.short-placed, laws.short-written)
+
+sub-if2 : tie.Need-sub-if2
+sub-if2 c = search needs
+
+returns-2 : tie.Need-returns-2
+returns-2 c = search (laws.late-placed, laws.late-written)
+
+slice-aggregate-put : tie.Need-slice-aggregate-put
+slice-aggregate-put c = search needs
+
+put-requires : tie.Need-put-requires
+put-requires c κs = search needs
+
+same-length : tie.Need-same-length
+same-length c = search needs
+
+returns-3 : tie.Need-returns-3
+returns-3 c = search (needs, laws.placed-to, laws.text-written)
+
+pub write-header-spec : {M : Type 1} → statement M
+write-header-spec =
+    tie.close
+    (tie.spec returns sub-if2 returns-2 slice-aggregate-put put-requires same-length returns-3)

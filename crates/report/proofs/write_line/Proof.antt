@@ -1,0 +1,26 @@
+use Rattle.report.proofs.Laws as laws
+use borrow.Author.Needs.{needs}
+use Rattle.report.proofs.write_line.Statement.{statement}
+use Rattle.report.proofs.write_line.Tie as tie
+
+returns : tie.Need-returns
+returns c = search (laws.short-placed, laws.short-written)
+
+sub-if2 : tie.Need-sub-if2
+sub-if2 c = search needs
+
+returns-2 : tie.Need-returns-2
+returns-2 c = search (laws.late-placed, laws.late-written)
+
+put-line-requires : tie.Need-put-line-requires
+put-line-requires c κs = search needs
+
+same-length : tie.Need-same-length
+same-length c = search needs
+
+returns-3 : tie.Need-returns-3
+returns-3 c = search (laws.placed-to, laws.text-written, laws.line-short)
+
+pub write-line-spec : {M : Type 1} → statement M
+write-line-spec =
+    tie.close (tie.spec returns sub-if2 returns-2 put-line-requires same-length returns-3)

@@ -1,0 +1,5 @@
+pub mod Text
+pub mod TextCases
+pub mod TextLaws
+pub mod Written
+pub mod WrittenLaws

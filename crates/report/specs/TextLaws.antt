@@ -1,0 +1,54 @@
+-- Lengths of the lines that a replay writes.
+--     length-digits       k digits are k bytes
+--     places-most         a number has 20 decimal digits at most
+--     line-most           no answer's line is longer than lineMost
+-- Assumes nothing.
+use mathlib.Core.Path.{_≡_, refl, _∙_}
+use mathlib.Core.List.{List, [], _∷_}
+use Prim.Native.Nat.{ℕ, zero, suc, _+_, _/_, _%_, _≤_, max}
+use native.Mathlib.Omega.{arith}
+use lib.Dec.{ltb}
+use lib.ListN.{length, getD, length-append}
+use Rattle.fields.specs.Bytes.{bytes}
+use Rattle.kinds.specs.Tests.{by-cases}
+use Rattle.kinds.specs.declared.answer.Numbers.{Numbers}
+use Rattle.report.specs.Text.{glyph, digits, placesFrom, places, decimal, names, nameOf, ended, headOf, tailOf, answerLine, lineMost}
+
+pub length-ended : (b : ℕ) (f : List ℕ) → length (ended b f) ≡ length f + 1
+length-ended b f = length-append f (b ∷ [])
+
+pub length-digits : (b k n : ℕ) → length (digits b k n) ≡ k
+unfolding digits
+length-digits b zero n = refl
+length-digits b (suc k) n = length-ended (glyph (n % b)) (digits b k (n / b)) ∙ rw (length-digits b k (n / b)) (omega arith)
+
+places-from : (k n : ℕ) → placesFrom k n ≤ k + 1
+unfolding placesFrom
+places-from zero n = omega arith
+places-from (suc k) n = by-cases (ltb n 10) (λ o. rw o (omega arith)) (λ o. rw o (omega (arith, places-from k (n / 10))))
+
+pub places-most : (n : ℕ) → places n ≤ 20
+places-most n = places-from 19 n
+
+pub decimal-most : (n : ℕ) → length (decimal n) ≤ 20
+decimal-most n = rw (length-digits 10 (places n) n) (places-most n)
+
+-- the length of the longest text
+abbrev longest : List (List ℕ) → ℕ
+longest [] = 0
+longest (w ∷ ws) = max (length w) (longest ws)
+
+chosen-most : (ws : List (List ℕ)) (k : ℕ) (d : List ℕ) → length (getD ws k d) ≤ max (length d) (longest ws)
+chosen-most [] k d = omega arith
+chosen-most (w ∷ ws) zero d = omega arith
+chosen-most (w ∷ ws) (suc k) d = omega (arith, chosen-most ws k d)
+
+pub name-most : (k : ℕ) → length (nameOf k) ≤ 6
+unfolding nameOf
+name-most k = chosen-most names k (bytes "bad")
+
+pub line-most : (n : ℕ) (x : Numbers) → length (answerLine n x) ≤ lineMost
+unfolding headOf tailOf
+line-most n x =
+    simp length-append
+    (omega (arith, decimal-most n, name-most (x .name), decimal-most (x .reason), length-digits 16 16 (x .value), decimal-most (x .words)))

@@ -1,0 +1,44 @@
+-- What is known of the bytes where a text was written.
+--     sets-append         two texts stored one after the other are the two texts stored at once
+--     sets-last           the last byte of a text can be stored first
+--     written-is          where there is room, the bytes stored are those of the text in their place
+--     written-length      the number of bytes is kept
+--     written-front       where there is room, the bytes up to the place after the text: those before it, and the text
+-- Assumes nothing.
+use mathlib.Core.Path.{_≡_, _∙_}
+use mathlib.Core.List.{List, [], _∷_, _++_}
+use Prim.Native.Nat.{ℕ, suc, _+_, _≤_}
+use native.Mathlib.Nat.{add-zero, add-suc, suc-add}
+use native.Mathlib.Omega.{arith}
+use lib.ListN.{length, take, drop, set, length-append}
+use lib.Seq.{sets, sets-eq, length-sets, set-comm, take-at, length-take-le}
+use borrow.Author.Tests.{le-leb, leb-true}
+use Rattle.kinds.specs.Tests.{by-cases}
+use Rattle.report.specs.Written.{roomFor, written}
+
+pub sets-append : (l : List ℕ) (i : ℕ) (s t : List ℕ) → sets l i (s ++ t) ≡ sets (sets l i s) (i + length s) t
+sets-append l i [] t = rw (add-zero i)
+sets-append l i (a ∷ s) t = rw (add-suc, ← suc-add) (sets-append (set l i a) (suc i) s t)
+
+pub sets-last : (l : List ℕ) (i : ℕ) (s : List ℕ) (b : ℕ) → sets l i (s ++ (b ∷ [])) ≡ sets (set l (i + length s) b) i s
+sets-last l i [] b = rw (add-zero i)
+sets-last l i (a ∷ s) b =
+    sets-last (set l i a) (suc i) s b
+    ∙ rw (add-suc, suc-add, set-comm l i (suc (i + length s)) a b (λ e. omega arith))
+
+module _ (m : ℕ) (o : List ℕ) (a : ℕ) (t : List ℕ) where
+  pub written-is : a + m ≤ length o → length t ≤ m → sets o a t ≡ written m o a t
+  unfolding written
+  written-is h g = rw (le-leb (a + m) (length o) h) (sets-eq t o a (omega arith))
+
+  pub written-length : length t ≤ m → length (written m o a t) ≡ length o
+  written-length g =
+      by-cases (roomFor m o a)
+      (λ r. rw (← written-is (leb-true (a + m) (length o) r) g) (length-sets o a t))
+      (λ r. unfold written in rw r)
+
+  pub written-front : a + m ≤ length o → length t ≤ m → take (a + length t) (written m o a t) ≡ take a o ++ t
+  unfolding written
+  written-front h g =
+      rw (le-leb (a + m) (length o) h)
+      (take-at (take a o ++ t) (drop (a + length t) o) (a + length t) (length-append (take a o) t ∙ rw (length-take-le a o (omega arith))))
