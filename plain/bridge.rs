@@ -1,0 +1,491 @@
+// The bridge: requester lookup, DMA through translation tables or bypass, MSI,
+// loads and stores, error messages, stop bits and firmware requests.
+//
+// A PE (partitionable endpoint) is the unit that is stopped and released.
+// The tables are plain vectors; only `state` and `interrupts` are written.
+
+/// Stop bits in the first state word of a PE. Its other bits stay as they are.
+pub const MMIO_STOP: u64 = 1;
+pub const DMA_STOP: u64 = 2;
+
+/// P and Q: the last word of an interrupt is 2P+Q.
+pub const PENDING: u64 = 2;
+pub const QUEUED: u64 = 1;
+
+/// The priority that holds every MSI.
+pub const MASKED: u64 = 255;
+
+/// What a device, the processor or the firmware asks for.
+/// Numbers are wide: one that no table has is refused, never cut.
+#[derive(Clone, Copy, Debug, PartialEq, Eq)]
+pub enum Request {
+    Dma { requester: u64, write: bool, address: u64, length: u64, data: u32 },
+    Load { address: u64, width: u64 },
+    Store { address: u64, width: u64 },
+    Error { requester: u64 },
+    Clear { pe: u64, part: Part },
+    End { interrupt: u64 },
+    Priority { interrupt: u64, priority: u64 },
+}
+
+/// What firmware may clear of a PE: one stop bit or the error record.
+#[derive(Clone, Copy, Debug, PartialEq, Eq)]
+pub enum Part {
+    Mmio,
+    Dma,
+    Record,
+}
+
+#[derive(Clone, Copy, Debug, PartialEq, Eq)]
+pub enum Name {
+    Pass,
+    Msi,
+    Held,
+    Ones,
+    Drop,
+    Refuse,
+    Done,
+}
+
+/// The whole answer to a request.
+#[derive(Clone, Copy, Debug, PartialEq, Eq)]
+pub struct Answer {
+    pub name: Name,
+    /// 0 unless the request is refused; `Ones` and `Drop` carry 11.
+    pub reason: u64,
+    /// The address of a pass, the number of an interrupt, all ones, or 0.
+    pub value: u64,
+    /// Table words read.
+    pub words: u64,
+    /// Given with a pass only.
+    pub pe: Option<u64>,
+    /// Given with a presented MSI only.
+    pub server: Option<u64>,
+    /// Given with a presented MSI only.
+    pub priority: Option<u64>,
+}
+
+fn answer(name: Name, reason: u64, value: u64, words: u64) -> Answer {
+    Answer { name, reason, value, words, pe: None, server: None, priority: None }
+}
+
+fn refuse(reason: u64, words: u64) -> Answer {
+    answer(Name::Refuse, reason, 0, words)
+}
+
+fn done() -> Answer {
+    answer(Name::Done, 0, 0, 0)
+}
+
+fn held(number: u64) -> Answer {
+    answer(Name::Held, 0, number, 0)
+}
+
+fn pass(address: u64, pe: u64, words: u64) -> Answer {
+    Answer { pe: Some(pe), ..answer(Name::Pass, 0, address, words) }
+}
+
+/// The tables and their sizes. The default has no tables and refuses all with 1.
+#[derive(Clone, Debug, Default, PartialEq, Eq)]
+pub struct Bridge {
+    /// Number of PEs, 1..256.
+    pub n: u64,
+    /// Number of interrupts, 0..2048.
+    pub m: u64,
+    /// Number of requesters, 1..65536.
+    pub r: u64,
+    /// PE of each requester; n or more means none.
+    pub requesters: Vec<u16>,
+    /// Two records to each PE: base, levels, table code, page code.
+    pub translation: Vec<u64>,
+    /// Word k is at system address 8k.
+    pub memory: Vec<u64>,
+    /// Four words to each PE; PE k is bit k mod 64 of word k div 64.
+    pub peers: Vec<u64>,
+    /// PE, server, priority, 2P+Q.
+    pub interrupts: Vec<u64>,
+    /// M32: base, size, PCI base. Then 16 of M64: base, size, mode, PE.
+    pub windows: Vec<u64>,
+    /// PE of each M32 segment.
+    pub segments: Vec<u16>,
+    /// Stop bits, reason and value of the error record.
+    pub state: Vec<u64>,
+}
+
+impl Bridge {
+    /// A bridge of the given sizes with every word 0.
+    pub fn new(n: u64, m: u64, r: u64, memory_words: u64) -> Bridge {
+        Bridge {
+            n,
+            m,
+            r,
+            requesters: vec![0; r as usize],
+            translation: vec![0; 8 * n as usize],
+            memory: vec![0; memory_words as usize],
+            peers: vec![0; 4 * n as usize],
+            interrupts: vec![0; 4 * m as usize],
+            windows: vec![0; 67],
+            segments: vec![0; 256],
+            state: vec![0; 3 * n as usize],
+        }
+    }
+
+    /// Answers one request and writes what it changes to `state` and `interrupts`.
+    pub fn handle(&mut self, request: Request) -> Answer {
+        if !self.sizes_agree() {
+            return refuse(1, 0);
+        }
+        match request {
+            Request::Dma { requester, write, address, length, data } => {
+                self.dma(requester, write, address, length, data)
+            }
+            Request::Load { address, width } => self.load_or_store(address, width, true),
+            Request::Store { address, width } => self.load_or_store(address, width, false),
+            Request::Error { requester } => self.error_message(requester),
+            Request::Clear { pe, part } => self.clear(pe, part),
+            Request::End { interrupt } => self.end_of_interrupt(interrupt),
+            Request::Priority { interrupt, priority } => self.set_priority(interrupt, priority),
+        }
+    }
+
+    // ---- Tables ----
+
+    fn sizes_agree(&self) -> bool {
+        let length = |table: &Vec<u64>| table.len() as u64;
+        (1..=256).contains(&self.n)
+            && self.m <= 2_048
+            && (1..=65_536).contains(&self.r)
+            && self.requesters.len() as u64 == self.r
+            && length(&self.translation) == 8 * self.n
+            && length(&self.memory) <= 1_048_576
+            && length(&self.peers) == 4 * self.n
+            && length(&self.interrupts) == 4 * self.m
+            && length(&self.windows) == 67
+            && self.segments.len() == 256
+            && length(&self.state) == 3 * self.n
+    }
+
+    /// The PE of a requester, if it is known.
+    fn pe_of(&self, requester: u64) -> Option<usize> {
+        if requester >= self.r {
+            return None;
+        }
+        let pe = self.requesters[requester as usize];
+        if u64::from(pe) < self.n {
+            Some(pe as usize)
+        } else {
+            None
+        }
+    }
+
+    // ---- Freeze ----
+
+    /// Stops the failing PE and the PEs of its own peer vector.
+    fn freeze(&mut self, failing: usize, reason: u64, value: u64) {
+        self.stop(failing, reason, value);
+        for pe in 0..self.n as usize {
+            let is_peer = self.peers[4 * failing + pe / 64] >> (pe % 64) & 1 == 1;
+            if is_peer && pe != failing {
+                self.stop(pe, 13, failing as u64);
+            }
+        }
+    }
+
+    /// Sets both stop bits of one PE; its error record is written only if empty.
+    fn stop(&mut self, pe: usize, reason: u64, value: u64) {
+        self.state[3 * pe] |= MMIO_STOP | DMA_STOP;
+        if self.state[3 * pe + 1] == 0 {
+            self.state[3 * pe + 1] = reason;
+            self.state[3 * pe + 2] = value;
+        }
+    }
+
+    // ---- DMA ----
+
+    fn dma(&mut self, requester: u64, write: bool, address: u64, length: u64, data: u32) -> Answer {
+        if length < 1 || length > 4_096 || address % 4_096 + length > 4_096 {
+            return refuse(2, 0);
+        }
+        let pe = match self.pe_of(requester) {
+            Some(pe) => pe,
+            None => return refuse(3, 0),
+        };
+        if self.state[3 * pe] & DMA_STOP != 0 {
+            return refuse(4, 0);
+        }
+        match address >> 60 {
+            0 if (0xFFFF_0000..=0xFFFF_FFFF).contains(&address) => {
+                let number = u64::from(data & 31) | (address >> 4 & 0xFFF);
+                self.msi(pe, write, address, length, number)
+            }
+            0 => match self.translate(pe, write, address) {
+                Ok((system_address, words)) => pass(system_address, pe as u64, words),
+                Err((reason, words)) => {
+                    self.freeze(pe, reason, address);
+                    refuse(reason, words)
+                }
+            },
+            1 => {
+                let number = u64::from(data & 31) | (address >> 4 & 0xFFFF);
+                self.msi(pe, write, address, length, number)
+            }
+            _ => {
+                self.freeze(pe, 5, address);
+                refuse(5, 0)
+            }
+        }
+    }
+
+    /// The system address and the words read, or the reason and the words read.
+    fn translate(&self, pe: usize, write: bool, address: u64) -> Result<(u64, u64), (u64, u64)> {
+        let first = 8 * pe + if address >> 59 & 1 == 1 { 4 } else { 0 };
+        let offset = address & ((1 << 59) - 1);
+        let entry = &self.translation[first..first + 4];
+        let table_code = entry[2];
+        let page_code = entry[3];
+        if table_code < 1 || table_code > 31 {
+            return Err((6, 0));
+        }
+
+        if page_code == 0 {
+            // Bypass, in units of 16 MiB.
+            let (start, end) = (entry[0], entry[1]);
+            if start >= end || end > 1 << 35 {
+                return Err((6, 0));
+            }
+            if offset < start << 24 || offset >= end << 24 {
+                return Err((7, 0));
+            }
+            return Ok((offset, 0));
+        }
+
+        let (base, levels) = (entry[0], entry[1]);
+        let page_bits = match page_code {
+            1 | 5 | 13 | 17 => page_code + 11,
+            _ => return Err((6, 0)),
+        };
+        if levels < 1 || levels > 5 {
+            return Err((6, 0));
+        }
+        let index_bits = table_code + 8;
+        let table_bytes = 8u64 << index_bits;
+        if base % table_bytes != 0 {
+            return Err((6, 0));
+        }
+        let window_bits = page_bits + levels * index_bits;
+        if window_bits > 59 {
+            return Err((6, 0));
+        }
+        if offset >= 1 << window_bits {
+            return Err((7, 0));
+        }
+
+        let index =
+            |level: u64| offset >> (page_bits + level * index_bits) & ((1 << index_bits) - 1);
+        let mut table = base;
+        let mut words = 0;
+        for level in (1..levels).rev() {
+            let word = self.table_word(table, index(level)).ok_or((15, words))?;
+            words += 1;
+            if word & 3 == 0 {
+                return Err((8, words));
+            }
+            table = word & !0xFFF;
+            if table % table_bytes != 0 {
+                return Err((8, words));
+            }
+        }
+        let word = self.table_word(table, index(0)).ok_or((15, words))?;
+        words += 1;
+        let valid = if write { 2 } else { 1 };
+        if word & valid == 0 {
+            return Err((8, words));
+        }
+        let in_page = (1 << page_bits) - 1;
+        Ok(((word & !in_page) | (offset & in_page), words))
+    }
+
+    /// A word of a table, if it is in memory. The table is a multiple of 8.
+    fn table_word(&self, table: u64, index: u64) -> Option<u64> {
+        let number = table / 8 + index;
+        if number < self.memory.len() as u64 {
+            Some(self.memory[number as usize])
+        } else {
+            None
+        }
+    }
+
+    // ---- MSI ----
+
+    fn msi(&mut self, pe: usize, write: bool, address: u64, length: u64, number: u64) -> Answer {
+        let good_form = write && length == 4 && address % 4 == 0;
+        if !good_form
+            || !self.words_good(number)
+            || self.interrupts[4 * number as usize] != pe as u64
+        {
+            self.freeze(pe, 9, address);
+            return refuse(9, 0);
+        }
+        self.arrive(number)
+    }
+
+    /// Whether an interrupt is there and its server, priority and state are in range.
+    fn words_good(&self, number: u64) -> bool {
+        if number >= self.m {
+            return false;
+        }
+        let at = 4 * number as usize;
+        self.interrupts[at + 1] < 1 << 24
+            && self.interrupts[at + 2] <= 255
+            && self.interrupts[at + 3] <= 3
+    }
+
+    /// An MSI arrives at a good interrupt.
+    fn arrive(&mut self, number: u64) -> Answer {
+        let at = 4 * number as usize;
+        if self.interrupts[at + 2] == MASKED || self.interrupts[at + 3] & PENDING != 0 {
+            self.interrupts[at + 3] |= QUEUED;
+            return held(number);
+        }
+        self.interrupts[at + 3] |= PENDING;
+        self.present(number)
+    }
+
+    fn present(&self, number: u64) -> Answer {
+        let at = 4 * number as usize;
+        Answer {
+            server: Some(self.interrupts[at + 1]),
+            priority: Some(self.interrupts[at + 2]),
+            ..answer(Name::Msi, 0, number, 0)
+        }
+    }
+
+    // ---- Loads and stores ----
+
+    fn load_or_store(&self, address: u64, width: u64, load: bool) -> Answer {
+        let all_ones = match width {
+            1 => 0xFF,
+            2 => 0xFFFF,
+            4 => 0xFFFF_FFFF,
+            8 => u64::MAX,
+            _ => return refuse(2, 0),
+        };
+        if address % width != 0 {
+            return refuse(2, 0);
+        }
+        let (pci_address, pe) = match self.window_of(address) {
+            Some((pci_address, pe)) if pe < self.n => (pci_address, pe),
+            _ => return refuse(10, 0),
+        };
+        if self.state[3 * pe as usize] & MMIO_STOP != 0 {
+            return if load {
+                answer(Name::Ones, 11, all_ones, 0)
+            } else {
+                answer(Name::Drop, 11, 0, 0)
+            };
+        }
+        pass(pci_address, pe, 0)
+    }
+
+    /// PCI address and PE by the first open window that covers the address.
+    fn window_of(&self, address: u64) -> Option<(u64, u64)> {
+        let (base, size, pci_base) = (self.windows[0], self.windows[1], self.windows[2]);
+        let open = size.is_power_of_two()
+            && (1 << 20 <= size && size <= 1 << 32)
+            && base % size == 0
+            && pci_base % size == 0
+            && u128::from(pci_base) + u128::from(size) <= 1 << 32;
+        if open && covers(base, size, address) {
+            let offset = address - base;
+            let segment = offset / (size / 256);
+            return Some((pci_base + offset, u64::from(self.segments[segment as usize])));
+        }
+
+        for window in self.windows[3..].chunks(4) {
+            let (base, size, mode, pe) = (window[0], window[1], window[2], window[3]);
+            let open = size.is_power_of_two()
+                && (1 << 28 <= size && size <= 1 << 50)
+                && base % size == 0
+                && (mode == 1 || mode == 2);
+            if open && covers(base, size, address) {
+                let segment = (address - base) / (size / 256);
+                return Some((address, if mode == 1 { pe } else { segment }));
+            }
+        }
+        None
+    }
+
+    // ---- Error messages ----
+
+    fn error_message(&mut self, requester: u64) -> Answer {
+        match self.pe_of(requester) {
+            Some(pe) => {
+                self.freeze(pe, 12, requester);
+                done()
+            }
+            None => refuse(3, 0),
+        }
+    }
+
+    // ---- Firmware ----
+
+    fn clear(&mut self, pe: u64, part: Part) -> Answer {
+        if pe >= self.n {
+            return refuse(14, 0);
+        }
+        let at = 3 * pe as usize;
+        match part {
+            Part::Mmio => self.state[at] &= !MMIO_STOP,
+            Part::Dma => self.state[at] &= !DMA_STOP,
+            Part::Record => {
+                self.state[at + 1] = 0;
+                self.state[at + 2] = 0;
+            }
+        }
+        done()
+    }
+
+    fn good_interrupt(&self, number: u64) -> bool {
+        self.words_good(number) && self.interrupts[4 * number as usize] < self.n
+    }
+
+    fn end_of_interrupt(&mut self, number: u64) -> Answer {
+        if !self.good_interrupt(number) {
+            return refuse(14, 0);
+        }
+        let at = 4 * number as usize;
+        let pending = self.interrupts[at + 3] & PENDING != 0;
+        let queued = self.interrupts[at + 3] & QUEUED != 0;
+        if !pending {
+            return done();
+        }
+        if queued && self.interrupts[at + 2] != MASKED {
+            self.interrupts[at + 3] &= !QUEUED;
+            return self.present(number);
+        }
+        self.interrupts[at + 3] &= !PENDING;
+        done()
+    }
+
+    fn set_priority(&mut self, number: u64, priority: u64) -> Answer {
+        if priority > 255 {
+            return refuse(2, 0);
+        }
+        if !self.good_interrupt(number) {
+            return refuse(14, 0);
+        }
+        let at = 4 * number as usize;
+        let old = self.interrupts[at + 2];
+        self.interrupts[at + 2] = priority;
+        if old == MASKED && priority != MASKED && self.interrupts[at + 3] & QUEUED != 0 {
+            self.interrupts[at + 3] &= !QUEUED;
+            return self.arrive(number);
+        }
+        done()
+    }
+}
+
+/// Whether a window covers an address, also one that ends at 2^64.
+fn covers(base: u64, size: u64, address: u64) -> bool {
+    address >= base && address - base < size
+}

@@ -1,0 +1,1162 @@
+// The exported function on figures worked out here: the cases, tables of full size and one past
+// each limit, the geometries that Linux programs, and lists of requests. Built by rustc with
+// --test; each test is a group of checks. Every check compares the whole answer and every word of
+// every table.
+
+#[path = "celltimber.rs"]
+mod celltimber;
+
+use celltimber::*;
+
+// ---- Answers ----
+
+fn pass(address: u64, pe: u64, words: u64) -> AnswerWords {
+    [PASS, 0, address, words, pe, 0, 0, 0]
+}
+
+fn msi(number: u64, server: u64, priority: u64) -> AnswerWords {
+    [MSI, 0, number, 0, 0, server, priority, 0]
+}
+
+fn held(number: u64) -> AnswerWords {
+    [HELD, 0, number, 0, 0, 0, 0, 0]
+}
+
+fn ones(value: u64) -> AnswerWords {
+    [ONES, 11, value, 0, 0, 0, 0, 0]
+}
+
+fn dropped() -> AnswerWords {
+    [DROP, 11, 0, 0, 0, 0, 0, 0]
+}
+
+fn refuse(reason: u64, words: u64) -> AnswerWords {
+    [REFUSE, reason, 0, words, 0, 0, 0, 0]
+}
+
+fn done() -> AnswerWords {
+    [DONE, 0, 0, 0, 0, 0, 0, 0]
+}
+
+// ---- Tables ----
+
+const FIRST: usize = 0;
+const SECOND: usize = 1;
+
+/// Stands in answer words before a call.
+const UNWRITTEN: u64 = 0x5555_AAAA_5555_AAAA;
+
+#[derive(Clone)]
+struct Tables {
+    pes: u64,
+    interrupt_count: u64,
+    requester_count: u64,
+    requesters: Vec<u16>,
+    entries: Vec<u64>,
+    memory: Vec<u64>,
+    peers: Vec<u64>,
+    interrupts: Vec<u64>,
+    windows: Vec<u64>,
+    segments: Vec<u16>,
+    state: Vec<u64>,
+}
+
+/// A word that a request changes: its index and its value afterwards.
+#[derive(Clone, Copy)]
+enum Change {
+    State(usize, u64),
+    Interrupt(usize, u64),
+}
+use Change::{Interrupt, State};
+
+/// A PE whose words were 0 is frozen: both stop bits, then the error record.
+fn frozen(pe: usize, reason: u64, value: u64) -> [Change; 3] {
+    [State(3 * pe, 3), State(3 * pe + 1, reason), State(3 * pe + 2, value)]
+}
+
+impl Tables {
+    /// Tables of these sizes with every word 0.
+    fn new(n: usize, m: usize, r: usize, memory_words: usize) -> Tables {
+        let mut tables = Tables {
+            pes: 0,
+            interrupt_count: 0,
+            requester_count: 0,
+            requesters: Vec::new(),
+            entries: Vec::new(),
+            memory: Vec::new(),
+            peers: Vec::new(),
+            interrupts: Vec::new(),
+            windows: vec![0; 67],
+            segments: vec![0; 256],
+            state: Vec::new(),
+        };
+        tables.resize(n, m, r, memory_words);
+        tables
+    }
+
+    /// Other sizes, with the lengths that agree; a further word is 0.
+    fn resize(&mut self, n: usize, m: usize, r: usize, memory_words: usize) {
+        self.pes = n as u64;
+        self.interrupt_count = m as u64;
+        self.requester_count = r as u64;
+        self.requesters.resize(r, 0);
+        self.entries.resize(8 * n, 0);
+        self.memory.resize(memory_words, 0);
+        self.peers.resize(4 * n, 0);
+        self.interrupts.resize(4 * m, 0);
+        self.state.resize(3 * n, 0);
+    }
+
+    fn set_entry(&mut self, pe: usize, record: usize, words: [u64; 4]) {
+        let at = 8 * pe + 4 * record;
+        self.entries[at..at + 4].copy_from_slice(&words);
+    }
+
+    /// Sets the memory word at a system address.
+    fn set_word(&mut self, address: usize, word: u64) {
+        assert_eq!(address % 8, 0);
+        self.memory[address / 8] = word;
+    }
+
+    fn set_interrupt(&mut self, number: usize, words: [u64; 4]) {
+        self.interrupts[4 * number..4 * number + 4].copy_from_slice(&words);
+    }
+
+    /// Sets the M32 window: base, size, PCI base.
+    fn set_m32(&mut self, words: [u64; 3]) {
+        self.windows[..3].copy_from_slice(&words);
+    }
+
+    /// Sets an M64 window: base, size, mode, PE.
+    fn set_m64(&mut self, number: usize, words: [u64; 4]) {
+        let at = 3 + 4 * number;
+        self.windows[at..at + 4].copy_from_slice(&words);
+    }
+
+    fn serve(&mut self, requests: &[u64], answers: &mut [u64]) -> usize {
+        run(
+            self.pes,
+            self.interrupt_count,
+            self.requester_count,
+            &self.requesters,
+            &self.entries,
+            &self.memory,
+            &self.peers,
+            &mut self.interrupts,
+            &self.windows,
+            &self.segments,
+            &mut self.state,
+            requests,
+            answers,
+        )
+    }
+
+    /// A list of requests in one call: these answers, these words changed and all others kept.
+    #[track_caller]
+    fn check_list(
+        &mut self,
+        requests: &[RequestWords],
+        answers: &[AnswerWords],
+        changes: &[Change],
+    ) {
+        let mut after = self.clone();
+        for &change in changes {
+            match change {
+                State(index, value) => after.state[index] = value,
+                Interrupt(index, value) => after.interrupts[index] = value,
+            }
+        }
+        let mut given = vec![UNWRITTEN; ANSWER_WORDS * answers.len()];
+        let count = self.serve(&requests.concat(), &mut given);
+        assert_eq!(count, requests.len(), "requests served");
+        for (k, (request, answer)) in requests.iter().zip(answers).enumerate() {
+            let given = &given[ANSWER_WORDS * k..ANSWER_WORDS * (k + 1)];
+            assert!(
+                given == answer,
+                "request {} {:x?}: answer {:x?}, not {:x?}",
+                k,
+                request,
+                given,
+                answer
+            );
+        }
+        self.check_same(&after);
+    }
+
+    #[track_caller]
+    fn check(&mut self, request: RequestWords, answer: AnswerWords, changes: &[Change]) {
+        self.check_list(&[request], &[answer], changes);
+    }
+
+    /// No word changes.
+    #[track_caller]
+    fn keeps(&mut self, request: RequestWords, answer: AnswerWords) {
+        self.check(request, answer, &[]);
+    }
+
+    /// PEs whose words were 0 are frozen, with these reasons and values; nothing else changes.
+    #[track_caller]
+    fn freezes(&mut self, request: RequestWords, answer: AnswerWords, pes: &[(usize, u64, u64)]) {
+        let changes: Vec<Change> =
+            pes.iter().flat_map(|&(pe, reason, value)| frozen(pe, reason, value)).collect();
+        self.check(request, answer, &changes);
+    }
+
+    /// The same on a copy, so that the next check finds the tables as they were.
+    #[track_caller]
+    fn would_freeze(&self, request: RequestWords, answer: AnswerWords, pe: (usize, u64, u64)) {
+        self.clone().freezes(request, answer, &[pe]);
+    }
+
+    #[track_caller]
+    fn check_same(&self, other: &Tables) {
+        same("requesters", &self.requesters, &other.requesters);
+        same("translation entries", &self.entries, &other.entries);
+        same("memory", &self.memory, &other.memory);
+        same("peers", &self.peers, &other.peers);
+        same("interrupts", &self.interrupts, &other.interrupts);
+        same("windows", &self.windows, &other.windows);
+        same("segments", &self.segments, &other.segments);
+        same("state", &self.state, &other.state);
+    }
+}
+
+#[track_caller]
+fn same<T: PartialEq + std::fmt::LowerHex>(name: &str, given: &[T], wanted: &[T]) {
+    assert_eq!(given.len(), wanted.len(), "length of {}", name);
+    if given == wanted {
+        return;
+    }
+    for (k, (given, wanted)) in given.iter().zip(wanted).enumerate() {
+        assert!(given == wanted, "word {} of {}: {:x}, not {:x}", k, name, given, wanted);
+    }
+}
+
+// ---- Cases A to J ----
+
+/// N=4, requester 5 is PE 2, its first record is 0x2000, 1, 1, 1. Memory is 32 KiB.
+fn of_the_cases() -> Tables {
+    let mut t = Tables::new(4, 8, 8, 0x1000);
+    t.requesters[5] = 2;
+    t.set_entry(2, FIRST, [0x2000, 1, 1, 1]);
+    t
+}
+
+#[test]
+fn case_a() {
+    let mut t = of_the_cases();
+    t.set_word(0x2018, 0x1234_5003);
+    t.keeps(dma(5, READ, 0x3ABC, 4, 0), pass(0x1234_5ABC, 2, 1));
+}
+
+#[test]
+fn case_b() {
+    let mut t = of_the_cases();
+    t.set_word(0x2FF8, 0x7777_7002);
+    t.keeps(dma(5, WRITE, 0x1F_FFFF, 1, 0), pass(0x7777_7FFF, 2, 1));
+    t.freezes(dma(5, READ, 0x1F_FFFF, 1, 0), refuse(8, 1), &[(2, 8, 0x1F_FFFF)]);
+    t.keeps(dma(5, WRITE, 0x1F_FFFF, 1, 0), refuse(4, 0));
+}
+
+#[test]
+fn case_c() {
+    let mut t = of_the_cases();
+    t.freezes(dma(5, READ, 0x20_0000, 1, 0), refuse(7, 0), &[(2, 7, 0x20_0000)]);
+}
+
+#[test]
+fn case_d() {
+    let mut t = of_the_cases();
+    t.set_word(0x2018, 0x1234_5003);
+    t.keeps(dma(5, READ, 0x3FFF, 2, 0), refuse(2, 0));
+    t.keeps(dma(5, READ, 0x3FFF, 1, 0), pass(0x1234_5FFF, 2, 1));
+    t.keeps(dma(5, READ, 0x3000, 0, 0), refuse(2, 0));
+    t.keeps(dma(5, READ, 0x3000, 4_097, 0), refuse(2, 0));
+    t.keeps(dma(5, READ, 0x3000, 4_096, 0), pass(0x1234_5000, 2, 1));
+}
+
+#[test]
+fn case_e() {
+    let mut t = of_the_cases();
+    t.set_entry(2, FIRST, [0x2000, 1, 1, 5]);
+    t.set_word(0x2000, 0x1234_5003);
+    t.keeps(dma(5, READ, 0xABCD, 1, 0), pass(0x1234_ABCD, 2, 1));
+}
+
+#[test]
+fn case_f() {
+    let mut t = of_the_cases();
+    t.set_entry(2, FIRST, [0x2000, 2, 1, 1]);
+    t.set_word(0x2010, 0x5001);
+    t.set_word(0x5018, 0x9003);
+    t.keeps(dma(5, WRITE, 0x40_3010, 4, 0), pass(0x9010, 2, 2));
+}
+
+#[test]
+fn case_g() {
+    let mut t = of_the_cases();
+    t.set_entry(2, SECOND, [1, 2, 1, 0]);
+    t.keeps(dma(5, READ, 0x0800_0000_0100_0000, 1, 0), pass(0x100_0000, 2, 0));
+    for address in [0x0800_0000_0200_0000, 0x0800_0000_00FF_FFFF] {
+        t.would_freeze(dma(5, READ, address, 1, 0), refuse(7, 0), (2, 7, address));
+    }
+}
+
+#[test]
+fn case_h() {
+    for (address, data) in [(0x1000_0000_0000_0070, 3), (0xFFFF_0070, 0)] {
+        let mut t = of_the_cases();
+        t.set_interrupt(7, [2, 0x42, 5, 0]);
+        // Word 31 is 2P+Q of interrupt 7.
+        t.check(dma(5, WRITE, address, 4, data), msi(7, 0x42, 5), &[Interrupt(31, 2)]);
+        t.check(dma(5, WRITE, address, 4, data), held(7), &[Interrupt(31, 3)]);
+    }
+}
+
+#[test]
+fn case_i() {
+    let mut t = of_the_cases();
+    t.set_m32([0x1_0000_0000, 0x1000_0000, 0x8000_0000]);
+    t.segments[3] = 1;
+    t.keeps(load(0x1_0030_0010, 4), pass(0x8030_0010, 1, 0));
+}
+
+#[test]
+fn case_j() {
+    let mut t = of_the_cases();
+    t.requesters[6] = 1;
+    t.peers[4] = 1 << 2;
+    t.peers[8] = 1 << 3;
+    t.freezes(error(6), done(), &[(1, 12, 6), (2, 13, 1)]);
+}
+
+// ---- Tables of full size ----
+
+/// M64 window 15 ends at 2^64.
+const LAST_M64: u64 = 0xFFFC_0000_0000_0000;
+
+/// The largest tables: requester 65,535 is PE 255, its first record is a table in the last 4 KiB of
+/// memory, interrupt 2,047 is its own, and so are the last segments of M32 and of M64 15.
+fn largest() -> Tables {
+    let mut t = Tables::new(256, 2_048, 65_536, 1_048_576);
+    t.requesters[65_535] = 255;
+    t.set_entry(255, FIRST, [0x7F_F000, 1, 1, 1]);
+    t.set_entry(255, SECOND, [0, 1 << 35, 31, 0]);
+    t.memory[1_048_575] = 0xABCD_E003;
+    t.set_interrupt(2_047, [255, 0xFF_FFFF, 254, 0]);
+    t.set_m32([0, 0x1_0000_0000, 0]);
+    t.segments[255] = 255;
+    t.set_m64(15, [LAST_M64, 1 << 50, 2, 0]);
+    t
+}
+
+/// Every kind of request, words that name none too.
+fn of_every_kind() -> [RequestWords; 10] {
+    [
+        dma(65_535, READ, 0x1F_FFFC, 4, 0),
+        dma(65_535, WRITE, 0xFFFF_7FF0, 4, 0),
+        load(0xFFFF_FFF8, 8),
+        store(0xFFFF_FFFF_FFFF_FFF8, 8),
+        priority(2_047, 255),
+        end(2_047),
+        clear(255, RECORD),
+        dma(65_535, READ, 0x20_0000, 4, 0),
+        error(65_535),
+        [7, 0, 0, 0, 0, 0, 0, 0],
+    ]
+}
+
+#[test]
+fn full_size_every_kind() {
+    let mut t = largest();
+    t.state[766] = 99;
+    t.state[767] = 98;
+    let answers = [
+        pass(0xABCD_EFFC, 255, 1),
+        msi(2_047, 0xFF_FFFF, 254),
+        pass(0xFFFF_FFF8, 255, 0),
+        pass(0xFFFF_FFFF_FFFF_FFF8, 255, 0),
+        done(),
+        done(),
+        done(),
+        refuse(7, 0),
+        done(),
+        refuse(2, 0),
+    ];
+    // The end clears the P that the MSI set. The record is cleared, then written by reason 7 alone.
+    let mut changes = vec![Interrupt(8_190, 255)];
+    changes.extend(frozen(255, 7, 0x20_0000));
+    t.check_list(&of_every_kind(), &answers, &changes);
+}
+
+#[test]
+fn full_size_requesters() {
+    let mut t = largest();
+    t.requesters[65_534] = 256;
+    t.requesters[65_533] = 0xFFFF;
+    t.keeps(dma(65_535, WRITE, 0x1F_F000, 4_096, 0), pass(0xABCD_E000, 255, 1));
+    let none = [65_533, 65_534, 65_536, 0x1_FFFF, (1 << 32) + 65_535, u64::MAX];
+    for requester in none {
+        t.keeps(dma(requester, WRITE, 0x1F_F000, 4_096, 0), refuse(3, 0));
+        t.keeps(error(requester), refuse(3, 0));
+    }
+    // The other requesters are PE 0, whose entries are disabled.
+    t.freezes(dma(65_532, WRITE, 0x1F_F000, 4_096, 0), refuse(6, 0), &[(0, 6, 0x1F_F000)]);
+}
+
+#[test]
+fn full_size_memory() {
+    let mut t = largest();
+    // Two levels, both in the last table: its last word is upper and last word.
+    t.set_entry(255, FIRST, [0x7F_F000, 2, 1, 1]);
+    t.memory[1_048_575] = 0x7F_F003;
+    t.keeps(dma(65_535, READ, 0x3FFF_F123, 1, 0), pass(0x7F_F123, 255, 2));
+    // The last bypass byte.
+    t.keeps(dma(65_535, READ, 0x0FFF_FFFF_FFFF_FFFF, 1, 0), pass(0x07FF_FFFF_FFFF_FFFF, 255, 0));
+    // A lower table and a first table that start one past memory.
+    t.memory[1_048_575] = 0x80_0003;
+    t.would_freeze(dma(65_535, READ, 0x3FFF_F123, 1, 0), refuse(15, 1), (255, 15, 0x3FFF_F123));
+    for levels in [1, 2] {
+        t.set_entry(255, FIRST, [0x80_0000, levels, 1, 1]);
+        t.would_freeze(dma(65_535, READ, 0, 1, 0), refuse(15, 0), (255, 15, 0));
+    }
+    // A table of 8 KiB at the end of a memory that lacks its last word.
+    t.resize(256, 2_048, 65_536, 1_048_575);
+    t.set_entry(255, FIRST, [0x7F_E000, 1, 2, 1]);
+    t.memory[1_048_574] = 0x1003;
+    t.keeps(dma(65_535, WRITE, 0x3F_E004, 4, 0), pass(0x1004, 255, 1));
+    t.would_freeze(dma(65_535, WRITE, 0x3F_F004, 4, 0), refuse(15, 0), (255, 15, 0x3F_F004));
+}
+
+#[test]
+fn full_size_peers() {
+    // A bit in each word of the vector, the failing PE's own and the ends of the words among them.
+    let mut t = largest();
+    t.peers[4 * 255] = 1;
+    t.peers[4 * 255 + 1] = 1;
+    t.peers[4 * 255 + 2] = 1 << 63;
+    t.peers[4 * 255 + 3] = 1 | 1 << 62 | 1 << 63;
+    // Peers of peers.
+    t.peers[4 * 254 + 3] = 1 << 61;
+    let peers = [(0, 13, 255), (64, 13, 255), (191, 13, 255), (192, 13, 255), (254, 13, 255)];
+    let refused = [
+        (dma(65_535, READ, 0x2000_0000_0000_0000, 1, 0), 5, 0x2000_0000_0000_0000, 0),
+        (dma(65_535, READ, 0x20_0000, 1, 0), 7, 0x20_0000, 0),
+        (dma(65_535, READ, 0x1000, 1, 0), 8, 0x1000, 1),
+        (dma(65_535, READ, 0xFFFF_7FF0, 4, 0), 9, 0xFFFF_7FF0, 0),
+    ];
+    for (request, reason, value, words) in refused {
+        let mut all = peers.to_vec();
+        all.push((255, reason, value));
+        t.clone().freezes(request, refuse(reason, words), &all);
+    }
+    let mut all = peers.to_vec();
+    all.push((255, 12, 65_535));
+    t.freezes(error(65_535), done(), &all);
+    // PE 0 has PE 255 as its peer, and both have records.
+    t.peers[3] = 1 << 63;
+    t.state[0] = 0xFFFF_FFFF_FFFF_FFFC;
+    t.state[765] = 4;
+    t.check(error(7), done(), &[State(0, u64::MAX), State(765, 7)]);
+    // With 255 PEs the bit of PE 255 is ignored.
+    let mut t = largest();
+    t.resize(255, 2_048, 65_536, 1_048_576);
+    t.peers[3] = 3 << 62;
+    t.freezes(error(7), done(), &[(0, 12, 7), (254, 13, 0)]);
+}
+
+#[test]
+fn full_size_interrupts() {
+    let mut t = largest();
+    // Word 8,191 is 2P+Q of interrupt 2,047, word 8,190 its priority.
+    let (narrow, wide) = (0xFFFF_7FF0, 0x1FFF_FFFF_FFF0_7FF0);
+    t.check(dma(65_535, WRITE, wide, 4, 0), msi(2_047, 0xFF_FFFF, 254), &[Interrupt(8_191, 2)]);
+    t.check(dma(65_535, WRITE, narrow, 4, 31), held(2_047), &[Interrupt(8_191, 3)]);
+    t.check(end(2_047), msi(2_047, 0xFF_FFFF, 254), &[Interrupt(8_191, 2)]);
+    t.check(priority(2_047, 255), done(), &[Interrupt(8_190, 255)]);
+    t.check(dma(65_535, WRITE, wide, 4, 0), held(2_047), &[Interrupt(8_191, 3)]);
+    t.check(end(2_047), done(), &[Interrupt(8_191, 1)]);
+    t.check(
+        priority(2_047, 0),
+        msi(2_047, 0xFF_FFFF, 0),
+        &[Interrupt(8_190, 0), Interrupt(8_191, 2)],
+    );
+    t.keeps(priority(2_047, 256), refuse(2, 0));
+    for number in [2_048, 0x1_07FF, u64::MAX] {
+        t.keeps(end(number), refuse(14, 0));
+        t.keeps(priority(number, 5), refuse(14, 0));
+        t.keeps(priority(number, 256), refuse(2, 0));
+    }
+    // Number 2,048, the last number of each window, and numbers of another PE.
+    for address in [
+        0xFFFF_8000,
+        0x1000_0000_0000_8000,
+        0xFFFF_FFF0,
+        0x1FFF_FFFF_FFFF_FFF0,
+        0xFFFF_7FE0,
+        0x1000_0000_0000_0000,
+    ] {
+        t.would_freeze(dma(65_535, WRITE, address, 4, 0), refuse(9, 0), (255, 9, address));
+    }
+    // One past the largest server, priority and state.
+    for (word, value) in [(1, 1 << 24), (2, 256), (3, 4), (0, (1 << 16) + 255)] {
+        let mut t = largest();
+        t.interrupts[8_188 + word] = value;
+        t.would_freeze(dma(65_535, WRITE, narrow, 4, 0), refuse(9, 0), (255, 9, narrow));
+        t.keeps(end(2_047), refuse(14, 0));
+        t.keeps(priority(2_047, 5), refuse(14, 0));
+    }
+}
+
+#[test]
+fn full_size_loads_and_stores() {
+    let mut t = largest();
+    t.segments[254] = 256;
+    // Segments of M32 are 16 MiB, those of M64 15 are 4 TiB.
+    t.keeps(load(0xFF00_0000, 1), pass(0xFF00_0000, 255, 0));
+    t.keeps(load(0xFFFF_FFFF, 1), pass(0xFFFF_FFFF, 255, 0));
+    t.keeps(load(0xFEFF_FFFF, 1), refuse(10, 0));
+    t.keeps(load(0x1_0000_0000, 8), refuse(10, 0));
+    t.keeps(load(LAST_M64 - 8, 8), refuse(10, 0));
+    t.keeps(load(LAST_M64, 8), pass(LAST_M64, 0, 0));
+    t.keeps(store(0xFFFF_FBFF_FFFF_FFFF, 1), pass(0xFFFF_FBFF_FFFF_FFFF, 254, 0));
+    t.keeps(store(0xFFFF_FC00_0000_0000, 8), pass(0xFFFF_FC00_0000_0000, 255, 0));
+    t.keeps(store(u64::MAX, 1), pass(u64::MAX, 255, 0));
+    t.keeps(load(u64::MAX, 2), refuse(2, 0));
+    t.keeps(load(u64::MAX - 15, 16), refuse(2, 0));
+    // PE 255 is MMIO stopped.
+    t.state[765] = 1;
+    for (width, value) in [(1, 0xFF), (2, 0xFFFF), (4, 0xFFFF_FFFF), (8, u64::MAX)] {
+        t.keeps(load(0xFF00_0000, width), ones(value));
+        t.keeps(store(0xFFFF_FC00_0000_0000, width), dropped());
+    }
+    t.keeps(load(LAST_M64, 8), pass(LAST_M64, 0, 0));
+    // A window of one PE: 255 is the last, 256 is none.
+    t.state[765] = 0;
+    t.set_m64(14, [LAST_M64, 1 << 28, 1, 255]);
+    t.keeps(load(LAST_M64, 8), pass(LAST_M64, 255, 0));
+    t.set_m64(14, [LAST_M64, 1 << 28, 1, 256]);
+    t.keeps(load(LAST_M64, 8), refuse(10, 0));
+}
+
+#[test]
+fn full_size_firmware() {
+    let mut t = largest();
+    t.state[765] = u64::MAX;
+    t.state[766] = 15;
+    t.state[767] = u64::MAX;
+    t.check(clear(255, MMIO_BIT), done(), &[State(765, u64::MAX - 1)]);
+    t.check(clear(255, DMA_BIT), done(), &[State(765, u64::MAX - 3)]);
+    t.check(clear(255, RECORD), done(), &[State(766, 0), State(767, 0)]);
+    for pe in [256, 0x1_00FF, u64::MAX] {
+        for part in [MMIO_BIT, DMA_BIT, RECORD] {
+            t.keeps(clear(pe, part), refuse(14, 0));
+        }
+    }
+}
+
+// ---- One past each limit ----
+
+/// Every request is 1 and no word changes.
+#[track_caller]
+fn refuses_all(name: &str, mut t: Tables) {
+    println!("{}", name);
+    let requests = of_every_kind();
+    t.check_list(&requests, &[refuse(1, 0); 10], &[]);
+    for request in requests {
+        t.keeps(request, refuse(1, 0));
+    }
+}
+
+#[test]
+fn past_the_limits() {
+    let t = largest();
+    for (name, n, m, r, words) in [
+        ("N is 257", 257, 2_048, 65_536, 1_048_576),
+        ("M is 2,049", 256, 2_049, 65_536, 1_048_576),
+        ("R is 65,537", 256, 2_048, 65_537, 1_048_576),
+        ("memory has 1,048,577 words", 256, 2_048, 65_536, 1_048_577),
+        ("N is 0", 0, 2_048, 65_536, 1_048_576),
+        ("R is 0", 256, 2_048, 0, 1_048_576),
+    ] {
+        let mut t = t.clone();
+        t.resize(n, m, r, words);
+        refuses_all(name, t);
+    }
+}
+
+#[test]
+fn numbers_off_the_lengths() {
+    // The lengths stay as they are; four times 2^62 is 0 in 64 bits.
+    let t = largest();
+    for n in [0, 255, 257, (1 << 62) + 256, u64::MAX] {
+        refuses_all("N", Tables { pes: n, ..t.clone() });
+    }
+    for m in [0, 2_047, 2_049, (1 << 62) + 2_048, u64::MAX] {
+        refuses_all("M", Tables { interrupt_count: m, ..t.clone() });
+    }
+    for r in [0, 65_535, 65_537, (1 << 32) + 65_536, u64::MAX] {
+        refuses_all("R", Tables { requester_count: r, ..t.clone() });
+    }
+}
+
+#[test]
+fn lengths_one_off() {
+    let change = |name: &str, change: fn(&mut Tables)| {
+        let mut t = largest();
+        change(&mut t);
+        refuses_all(name, t);
+    };
+    change("requesters one short", |t| t.requesters.truncate(65_535));
+    change("requesters one long", |t| t.requesters.push(0));
+    change("translation entries one short", |t| t.entries.truncate(2_047));
+    change("translation entries one long", |t| t.entries.push(0));
+    change("memory one long", |t| t.memory.push(0));
+    change("peers one short", |t| t.peers.truncate(1_023));
+    change("peers one long", |t| t.peers.push(0));
+    change("interrupts one short", |t| t.interrupts.truncate(8_191));
+    change("interrupts one long", |t| t.interrupts.push(0));
+    change("windows one short", |t| t.windows.truncate(66));
+    change("windows one long", |t| t.windows.push(0));
+    change("segments one short", |t| t.segments.truncate(255));
+    change("segments one long", |t| t.segments.push(0));
+    change("state one short", |t| t.state.truncate(767));
+    change("state one long", |t| t.state.push(0));
+    change("all empty", |t| {
+        t.resize(0, 0, 0, 0);
+        t.windows.clear();
+        t.segments.clear();
+    });
+}
+
+#[test]
+fn smallest() {
+    // N is 1, M is 0, R is 1 and there is no memory.
+    let mut t = Tables::new(1, 0, 1, 0);
+    t.set_entry(0, FIRST, [0, 1, 1, 1]);
+    t.set_entry(0, SECOND, [0, 1, 1, 0]);
+    t.keeps(dma(0, READ, 0x0800_0000_0000_0000, 1, 0), pass(0, 0, 0));
+    t.would_freeze(dma(0, READ, 0, 1, 0), refuse(15, 0), (0, 15, 0));
+    t.would_freeze(dma(0, WRITE, 0xFFFF_0000, 4, 0), refuse(9, 0), (0, 9, 0xFFFF_0000));
+    t.keeps(dma(1, READ, 0, 1, 0), refuse(3, 0));
+    t.keeps(end(0), refuse(14, 0));
+    t.keeps(clear(1, DMA_BIT), refuse(14, 0));
+    t.keeps(load(0, 8), refuse(10, 0));
+    t.freezes(error(0), done(), &[(0, 12, 0)]);
+}
+
+// ---- Limits of the words ----
+
+#[test]
+fn entry_limits() {
+    // Table word 0 leads to its own table, and as a last word to its page.
+    let mut t = Tables::new(1, 0, 1, 0x400);
+    t.set_word(0x1000, 0x1003);
+    let good: [([u64; 4], u64, u64); 9] = [
+        ([0x1000, 5, 1, 1], 0x1123, 5),
+        ([0x1000, 4, 1, 5], 0x123, 4),
+        ([0x1000, 1, 1, 13], 0x123, 1),
+        ([0x1000, 1, 1, 17], 0x123, 1),
+        // 59 bits.
+        ([0, 1, 27, 13], 0x123, 1),
+        ([0, 1, 23, 17], 0x123, 1),
+        ([0, 1, 31, 0], 0x123, 0),
+        ([0, 1 << 35, 1, 0], 0x123, 0),
+        ([0, (1 << 35) - 1, 1, 0], 0x123, 0),
+    ];
+    t.set_word(0, 3);
+    for (entry, address, words) in good {
+        t.set_entry(0, FIRST, entry);
+        t.keeps(dma(0, READ, 0x123, 1, 0), pass(address, 0, words));
+    }
+    let bad = [
+        [0x1000, 0, 1, 1],
+        [0x1000, 6, 1, 1],
+        [0x1000, (1 << 32) + 1, 1, 1],
+        [0x1000, 1, 0, 1],
+        [0, 1, 32, 1],
+        [0, 1, 32, 0],
+        [0, 1, 0, 0],
+        [0x1800, 1, 1, 1],
+        [0x1001, 1, 1, 1],
+        // 60 bits.
+        [0, 1, 28, 13],
+        [0, 1, 24, 17],
+        [0, 4, 1, 13],
+        [0, 3, 8, 1],
+        // A bypass that is empty or too long.
+        [0, 0, 1, 0],
+        [1, 1, 1, 0],
+        [2, 1, 1, 0],
+        [0, (1 << 35) + 1, 1, 0],
+    ];
+    for entry in bad {
+        t.set_entry(0, FIRST, entry);
+        t.would_freeze(dma(0, READ, 0x123, 1, 0), refuse(6, 0), (0, 6, 0x123));
+    }
+    for page_code in [2, 3, 4, 6, 9, 12, 14, 16, 18, 0x101, (1 << 32) + 1, u64::MAX] {
+        t.set_entry(0, FIRST, [0x1000, 1, 1, page_code]);
+        t.would_freeze(dma(0, READ, 0x123, 1, 0), refuse(6, 0), (0, 6, 0x123));
+    }
+}
+
+#[test]
+fn msi_numbers() {
+    let mut t = of_the_cases();
+    t.set_interrupt(7, [2, 0x42, 255, 1]);
+    // Address bits 3 and 2, those above the number, and data bits above 4 are ignored.
+    for (address, data) in [
+        (0xFFFF_0000, 7),
+        (0xFFFF_007C, 0xFFFF_FFE0),
+        (0x1000_0000_0000_0030, 4),
+        (0x1FFF_FFFF_FFF0_007C, 0xFFFF_FFE7),
+    ] {
+        t.keeps(dma(5, WRITE, address, 4, data), held(7));
+    }
+    // Numbers that are 7 in fewer bits, and other forms of request.
+    for (direction, address, length) in [
+        (WRITE, 0xFFFF_8070, 4),
+        (WRITE, 0x1000_0000_0001_0070, 4),
+        (WRITE, 0x1000_0000_0008_0070, 4),
+        (WRITE, 0xFFFF_00F0, 4),
+        (READ, 0xFFFF_0070, 4),
+        (WRITE, 0xFFFF_0070, 3),
+        (WRITE, 0xFFFF_0070, 8),
+        (WRITE, 0xFFFF_0071, 4),
+        (WRITE, 0xFFFF_0072, 4),
+    ] {
+        let request = dma(5, direction, address, length, 0);
+        t.would_freeze(request, refuse(9, 0), (2, 9, address));
+    }
+    // Just outside the 32-bit window, where the table has no valid word or ends.
+    t.set_entry(2, FIRST, [0x2000, 1, 1, 17]);
+    for address in [0xFFFE_FFFC, 0x1_0000_0000] {
+        t.would_freeze(dma(5, WRITE, address, 4, 7), refuse(8, 1), (2, 8, address));
+    }
+}
+
+#[test]
+fn interrupt_states() {
+    let arrives = dma(5, WRITE, 0xFFFF_0070, 4, 0);
+    let presents = |priority| msi(7, 0x42, priority);
+    // Priority, request, and for 2P+Q of 0 to 3 the answer and 2P+Q afterwards.
+    let rows = [
+        (5, arrives, [(presents(5), 2), (presents(5), 3), (held(7), 3), (held(7), 3)]),
+        (255, arrives, [(held(7), 1), (held(7), 1), (held(7), 3), (held(7), 3)]),
+        (5, end(7), [(done(), 0), (done(), 1), (done(), 0), (presents(5), 2)]),
+        (255, end(7), [(done(), 0), (done(), 1), (done(), 0), (done(), 1)]),
+        (5, priority(7, 6), [(done(), 0), (done(), 1), (done(), 2), (done(), 3)]),
+        (255, priority(7, 6), [(done(), 0), (presents(6), 2), (done(), 2), (held(7), 3)]),
+        (5, priority(7, 255), [(done(), 0), (done(), 1), (done(), 2), (done(), 3)]),
+        (255, priority(7, 255), [(done(), 0), (done(), 1), (done(), 2), (done(), 3)]),
+    ];
+    for (before, request, afterwards) in rows {
+        let after = if request[0] == PRIORITY { request[2] } else { before };
+        for (state, (answer, next)) in (0..).zip(afterwards) {
+            let mut t = of_the_cases();
+            t.set_interrupt(7, [2, 0x42, before, state]);
+            t.check(request, answer, &[Interrupt(30, after), Interrupt(31, next)]);
+        }
+    }
+}
+
+#[test]
+fn window_limits() {
+    let mut t = Tables::new(1, 0, 1, 0);
+    // M32: base, size, PCI base.
+    let open = [
+        ([1 << 40, 1 << 20, 0xFFF0_0000], 0xFFF0_0000),
+        ([1 << 40, 1 << 32, 0], 0),
+        ([0xFFFF_FFFF_0000_0000, 1 << 32, 0], 0),
+        ([0, 1 << 31, 1 << 31], 1 << 31),
+    ];
+    for (window, pci) in open {
+        t.set_m32(window);
+        let last = window[1] - 1;
+        t.keeps(load(window[0], 8), pass(pci, 0, 0));
+        t.keeps(load(window[0] + last, 1), pass(pci + last, 0, 0));
+    }
+    let closed = [
+        [1 << 40, 0, 0],
+        [1 << 40, 1 << 19, 0],
+        [1 << 40, 1 << 33, 0],
+        [0, 3 << 20, 0],
+        [(1 << 40) + (1 << 19), 1 << 20, 0],
+        [1 << 40, 1 << 20, 1 << 19],
+        [1 << 40, 1 << 20, 1 << 32],
+        [1 << 40, 1 << 32, 1 << 32],
+        [1 << 40, 1 << 20, 0xFFFF_FFFF_FFF0_0000],
+    ];
+    for window in closed {
+        t.set_m32(window);
+        t.keeps(load(window[0], 8), refuse(10, 0));
+    }
+    // M64: base, size, mode, PE.
+    for window in [[1 << 60, 1 << 28, 1, 0], [1 << 60, 1 << 50, 2, 9], [0, 1 << 50, 1, 0]] {
+        t.set_m64(15, window);
+        t.keeps(load(window[0] + 8, 8), pass(window[0] + 8, 0, 0));
+        t.keeps(load(window[0] + window[1], 8), refuse(10, 0));
+    }
+    let closed = [
+        [1 << 60, 1 << 27, 1, 0],
+        [1 << 60, 1 << 51, 1, 0],
+        [1 << 60, 0, 1, 0],
+        [0, 3 << 28, 1, 0],
+        [(1 << 60) + (1 << 27), 1 << 28, 1, 0],
+        [1 << 60, 1 << 28, 0, 0],
+        [1 << 60, 1 << 28, 3, 0],
+        [1 << 60, 1 << 28, (1 << 32) + 1, 0],
+        [1 << 60, 1 << 28, 1, 1],
+        [1 << 60, 1 << 28, 1, 1 << 16],
+    ];
+    for window in closed {
+        t.set_m64(15, window);
+        t.keeps(load(window[0], 8), refuse(10, 0));
+    }
+}
+
+// ---- The geometries that Linux programs ----
+
+#[test]
+fn linux_two_levels_of_64_kib() {
+    // A table has 8,192 words; a last table covers 512 MiB, the whole 2^42 bytes.
+    let mut t = Tables::new(4, 0, 8, 0x8000);
+    t.requesters[5] = 2;
+    t.set_entry(2, FIRST, [0x1_0000, 2, 5, 5]);
+    t.set_word(0x1_0000, 0x2_0003);
+    t.set_word(0x1_0018, 0x3_0003);
+    t.set_word(0x1_0028, 0x2_1003);
+    t.set_word(0x1_FFF8, 0x3_0002);
+    t.set_word(0x2_0000, 0x1);
+    t.set_word(0x2_91A0, 0x3_5678_FFFF);
+    t.set_word(0x3_FFF8, 0x000F_FFFF_FFFF_0003);
+    t.keeps(dma(5, READ, 0, 1, 0), pass(0, 2, 2));
+    t.keeps(dma(5, READ, 0x1234_BEEF, 4, 0), pass(0x3_5678_BEEF, 2, 2));
+    t.keeps(dma(5, WRITE, 0x1234_0000, 4_096, 0), pass(0x3_5678_0000, 2, 2));
+    // The last page of the 2 GiB window, and of all.
+    t.keeps(dma(5, WRITE, 0x7FFF_FFFF, 1, 0), pass(0x000F_FFFF_FFFF_FFFF, 2, 2));
+    t.keeps(dma(5, READ, 0x3FF_FFFF_FFFF, 1, 0), pass(0x000F_FFFF_FFFF_FFFF, 2, 2));
+    t.would_freeze(dma(5, WRITE, 0, 1, 0), refuse(8, 2), (2, 8, 0));
+    t.would_freeze(dma(5, READ, 0x8000_0000, 1, 0), refuse(8, 1), (2, 8, 0x8000_0000));
+    t.would_freeze(dma(5, READ, 0xA000_0000, 1, 0), refuse(8, 1), (2, 8, 0xA000_0000));
+    t.would_freeze(dma(5, READ, 0x400_0000_0000, 1, 0), refuse(7, 0), (2, 7, 0x400_0000_0000));
+}
+
+#[test]
+fn linux_4_kib_pages() {
+    // Table code, bytes of a table, first address past one and past two levels.
+    for (code, table, one, two) in [
+        (3, 0x4000, 0x80_0000, 0x4_0000_0000),
+        (4, 0x8000, 0x100_0000, 0x10_0000_0000),
+        (5, 0x1_0000, 0x200_0000, 0x40_0000_0000),
+        (6, 0x2_0000, 0x400_0000, 0x100_0000_0000),
+    ] {
+        let mut t = Tables::new(4, 0, 8, 0xC000);
+        t.requesters[5] = 2;
+        let base = table as u64;
+        t.set_entry(2, FIRST, [base, 1, code, 1]);
+        t.set_word(table, 0x1_2345_6003);
+        t.set_word(2 * table - 8, 0x7_6543_2001);
+        t.keeps(dma(5, WRITE, 0x678, 8, 0), pass(0x1_2345_6678, 2, 1));
+        t.keeps(dma(5, READ, one - 1, 1, 0), pass(0x7_6543_2FFF, 2, 1));
+        t.would_freeze(dma(5, WRITE, one - 1, 1, 0), refuse(8, 1), (2, 8, one - 1));
+        t.would_freeze(dma(5, READ, 0x1000, 1, 0), refuse(8, 1), (2, 8, 0x1000));
+        t.would_freeze(dma(5, READ, one, 1, 0), refuse(7, 0), (2, 7, one));
+        // The same table below an upper one, from its last word.
+        t.set_entry(2, FIRST, [0, 2, code, 1]);
+        t.set_word(table - 8, base | 2);
+        t.keeps(dma(5, READ, two - 1, 1, 0), pass(0x7_6543_2FFF, 2, 2));
+        t.keeps(dma(5, WRITE, two - one, 4_096, 0), pass(0x1_2345_6000, 2, 2));
+        t.would_freeze(dma(5, READ, 0, 1, 0), refuse(8, 1), (2, 8, 0));
+        t.would_freeze(dma(5, READ, two, 1, 0), refuse(7, 0), (2, 7, two));
+        t.set_word(table - 8, (base + 0x1000) | 2);
+        t.would_freeze(dma(5, READ, two - 1, 1, 0), refuse(8, 1), (2, 8, two - 1));
+        // A base that is no multiple of the table's bytes.
+        t.set_entry(2, FIRST, [0x2000, 1, code, 1]);
+        t.would_freeze(dma(5, READ, 0, 1, 0), refuse(6, 0), (2, 6, 0));
+    }
+}
+
+#[test]
+fn linux_one_level_of_256_mib() {
+    // Bus address 4 GiB is system address 0: word 16 + k is page k. 512 words cover 128 GiB.
+    let mut t = Tables::new(4, 8, 8, 0x400);
+    t.requesters[5] = 2;
+    t.set_entry(2, FIRST, [0x1000, 1, 1, 17]);
+    for k in 0..496 {
+        t.set_word(0x1080 + 8 * k, (k as u64) << 28 | 3);
+    }
+    t.keeps(dma(5, READ, 0x1_0000_0000, 1, 0), pass(0, 2, 1));
+    t.keeps(dma(5, WRITE, 0x1_2345_6789, 4, 0), pass(0x2345_6789, 2, 1));
+    t.keeps(dma(5, READ, 0x1_FFFF_0000, 4, 0), pass(0xFFFF_0000, 2, 1));
+    t.keeps(dma(5, WRITE, 0x1F_FFFF_FFFF, 1, 0), pass(0x1E_FFFF_FFFF, 2, 1));
+    t.would_freeze(dma(5, READ, 0xFFFE_FFFF, 1, 0), refuse(8, 1), (2, 8, 0xFFFE_FFFF));
+    t.would_freeze(dma(5, READ, 0x20_0000_0000, 1, 0), refuse(7, 0), (2, 7, 0x20_0000_0000));
+    // The 32-bit MSI window is no page of the table.
+    t.set_word(0x1078, 0xF000_0003);
+    t.set_interrupt(1, [2, 9, 5, 0]);
+    t.keeps(dma(5, WRITE, 0xFFFE_FFFF, 1, 0), pass(0xFFFE_FFFF, 2, 1));
+    t.check(dma(5, WRITE, 0xFFFF_0010, 4, 0), msi(1, 9, 5), &[Interrupt(7, 2)]);
+    // The bits of a word below the page size are ignored.
+    t.set_word(0x1080, 0x0FFF_FFF3);
+    t.keeps(dma(5, READ, 0x1_0000_0123, 1, 0), pass(0x123, 2, 1));
+}
+
+#[test]
+fn linux_bypass() {
+    // End in units of 16 MiB, and in bytes: 16, 64 and 256 GiB.
+    for (end, bytes) in [(0x400, 0x4_0000_0000), (0x1000, 0x10_0000_0000), (0x4000, 0x40_0000_0000)]
+    {
+        let mut t = Tables::new(4, 0, 8, 0);
+        t.requesters[5] = 2;
+        t.set_entry(2, SECOND, [0, end, 1, 0]);
+        let start: u64 = 0x0800_0000_0000_0000;
+        t.keeps(dma(5, READ, start, 4_096, 0), pass(0, 2, 0));
+        t.keeps(dma(5, WRITE, start + 0xFFFF_0070, 4, 3), pass(0xFFFF_0070, 2, 0));
+        t.keeps(dma(5, WRITE, start + bytes - 1, 1, 0), pass(bytes - 1, 2, 0));
+        for address in [start + bytes, 0x0FFF_FFFF_FFFF_FFFF] {
+            t.would_freeze(dma(5, READ, address, 1, 0), refuse(7, 0), (2, 7, address));
+        }
+        t.would_freeze(dma(5, READ, 0, 1, 0), refuse(6, 0), (2, 6, 0));
+    }
+}
+
+#[test]
+fn linux_windows() {
+    // M32 of 2 GiB at PCI 0x80000000 has segments of 8 MiB; M64 of 64 GiB has segments of 256 MiB.
+    let mut t = Tables::new(256, 0, 8, 0);
+    t.set_m32([0x3_FE00_8000_0000, 0x8000_0000, 0x8000_0000]);
+    t.segments[1] = 3;
+    t.segments[255] = 200;
+    t.set_m64(0, [0x3_D000_0000_0000, 0x10_0000_0000, 2, 77]);
+    t.set_m64(1, [0x3_D00F_F000_0000, 0x1000_0000, 1, 5]);
+    t.keeps(load(0x3_FE00_807F_FFFC, 4), pass(0x807F_FFFC, 0, 0));
+    t.keeps(store(0x3_FE00_8080_0000, 8), pass(0x8080_0000, 3, 0));
+    t.keeps(load(0x3_FE00_FFFF_FFFF, 1), pass(0xFFFF_FFFF, 200, 0));
+    t.keeps(load(0x3_FE01_0000_0000, 1), refuse(10, 0));
+    t.keeps(load(0x3_D000_0000_0000, 8), pass(0x3_D000_0000_0000, 0, 0));
+    t.keeps(store(0x3_D001_2345_6788, 8), pass(0x3_D001_2345_6788, 18, 0));
+    // Where M64 0 and 1 overlap, 0 decides.
+    t.keeps(load(0x3_D00F_FFFF_FFF8, 8), pass(0x3_D00F_FFFF_FFF8, 255, 0));
+    t.windows[3 + 2] = 0;
+    t.keeps(load(0x3_D00F_FFFF_FFF8, 8), pass(0x3_D00F_FFFF_FFF8, 5, 0));
+}
+
+// ---- Lists of requests ----
+
+#[test]
+fn list_each_after_the_last() {
+    let mut t = of_the_cases();
+    t.set_word(0x2018, 0x1234_5003);
+    t.set_interrupt(7, [2, 0x42, 5, 0]);
+    t.set_m64(0, [0x1000_0000, 0x1000_0000, 1, 2]);
+    t.peers[8] = 1 << 3;
+    let good = dma(5, READ, 0x3ABC, 4, 0);
+    let outside = dma(5, READ, 0x20_0000, 4, 0);
+    let message = dma(5, WRITE, 0xFFFF_0070, 4, 0);
+    let served = [
+        (good, pass(0x1234_5ABC, 2, 1)),
+        (load(0x1000_0000, 8), pass(0x1000_0000, 2, 0)),
+        (message, msi(7, 0x42, 5)),
+        (error(5), done()),
+        (good, refuse(4, 0)),
+        (message, refuse(4, 0)),
+        (load(0x1000_0000, 8), ones(u64::MAX)),
+        (store(0x1000_0000, 8), dropped()),
+        (clear(2, DMA_BIT), done()),
+        (good, pass(0x1234_5ABC, 2, 1)),
+        (message, held(7)),
+        (store(0x1000_0000, 8), dropped()),
+        (outside, refuse(7, 0)),
+        (clear(2, RECORD), done()),
+        (outside, refuse(4, 0)),
+        (clear(2, DMA_BIT), done()),
+        (outside, refuse(7, 0)),
+        (clear(2, MMIO_BIT), done()),
+        (store(0x1000_0000, 8), pass(0x1000_0000, 2, 0)),
+        (end(7), msi(7, 0x42, 5)),
+        (priority(7, 255), done()),
+        (clear(3, DMA_BIT), done()),
+    ];
+    let (requests, answers): (Vec<RequestWords>, Vec<AnswerWords>) = served.into_iter().unzip();
+    // PE 2 has the DMA bit and the last refusal's record, PE 3 the MMIO bit and its first record.
+    let changes = [
+        State(6, 2),
+        State(7, 7),
+        State(8, 0x20_0000),
+        State(9, 1),
+        State(10, 13),
+        State(11, 2),
+        Interrupt(30, 255),
+        Interrupt(31, 2),
+    ];
+    let mut one_by_one = t.clone();
+    t.check_list(&requests, &answers, &changes);
+    for (request, answer) in requests.iter().zip(&answers) {
+        let mut given = [UNWRITTEN; ANSWER_WORDS];
+        assert_eq!(one_by_one.serve(request, &mut given), 1);
+        assert_eq!(given, *answer);
+    }
+    one_by_one.check_same(&t);
+}
+
+#[test]
+fn list_lengths() {
+    // Four error messages, from requesters that are PE 0 to 3; slices of 0 to 33 words.
+    let mut before = Tables::new(4, 0, 4, 0);
+    before.requesters = vec![0, 1, 2, 3];
+    let requests = [error(0), error(1), error(2), error(3)].concat();
+    let requests: Vec<u64> = requests.into_iter().chain([ERROR]).collect();
+    for asked in 0..=33 {
+        for room in 0..=33 {
+            let mut t = before.clone();
+            let mut answers = vec![UNWRITTEN; room];
+            let count = t.serve(&requests[..asked], &mut answers);
+            let whole = (asked / 8).min(room / 8);
+            assert_eq!(count, whole, "{} request words, {} answer words", asked, room);
+            let mut written = [done(); 4][..whole].concat();
+            written.resize(room, UNWRITTEN);
+            same("answers", &answers, &written);
+            let mut after = before.clone();
+            for pe in 0..whole {
+                after.state[3 * pe..3 * pe + 3].copy_from_slice(&[3, 12, pe as u64]);
+            }
+            t.check_same(&after);
+        }
+    }
+}
+
+#[test]
+fn list_of_many() {
+    // 20,000 requests in one call: an MSI presents, holds or is ended by turns.
+    let mut t = of_the_cases();
+    t.set_interrupt(7, [2, 0x42, 5, 0]);
+    let message = dma(5, WRITE, 0xFFFF_0070, 4, 0);
+    let requests = [message, message, end(7), end(7)].repeat(5_000);
+    let answers = [msi(7, 0x42, 5), held(7), msi(7, 0x42, 5), done()].repeat(5_000);
+    t.check_list(&requests, &answers, &[]);
+}
+
+#[test]
+fn list_of_none() {
+    let mut t = of_the_cases();
+    t.check_list(&[], &[], &[]);
+    // No whole request, no room for a whole answer.
+    let before = t.clone();
+    let mut answers = [UNWRITTEN; 16];
+    assert_eq!(t.serve(&error(5)[..7], &mut answers), 0);
+    assert_eq!(t.serve(&[], &mut answers), 0);
+    assert_eq!(t.serve(&error(5), &mut answers[..7]), 0);
+    assert_eq!(t.serve(&error(5), &mut []), 0);
+    assert_eq!(answers, [UNWRITTEN; 16]);
+    t.check_same(&before);
+    // Nor on tables of wrong lengths.
+    refuses_all("wrong lengths", Tables { pes: 5, ..before.clone() });
+    let mut t = Tables { pes: 5, ..before.clone() };
+    t.check_list(&[], &[], &[]);
+}
+
+#[test]
+fn words_outside_the_slices() {
+    // Written slices within longer ones: the words before and after them stay.
+    let mut t = Tables::new(4, 8, 8, 0x1000);
+    t.requesters[5] = 2;
+    t.set_interrupt(7, [2, 0x42, 5, 0]);
+    t.peers[8..12].fill(u64::MAX);
+    let before = t.clone();
+    let mut state = [&[UNWRITTEN; 8], &t.state[..], &[UNWRITTEN; 8]].concat();
+    let mut interrupts = [&[UNWRITTEN; 8], &t.interrupts[..], &[UNWRITTEN; 8]].concat();
+    let mut answers = [UNWRITTEN; 32];
+    let requests = [dma(5, WRITE, 0xFFFF_0070, 4, 0), error(5)].concat();
+    let count = run(
+        4,
+        8,
+        8,
+        &t.requesters,
+        &t.entries,
+        &t.memory,
+        &t.peers,
+        &mut interrupts[8..40],
+        &t.windows,
+        &t.segments,
+        &mut state[8..20],
+        &requests,
+        &mut answers[8..24],
+    );
+    assert_eq!(count, 2);
+    let guard = [UNWRITTEN; 8];
+    same("answers", &answers, &[guard, msi(7, 0x42, 5), done(), guard].concat());
+    let frozen = [3, 13, 2, 3, 13, 2, 3, 12, 5, 3, 13, 2];
+    same("state", &state, &[&guard, &frozen[..], &guard].concat());
+    t.interrupts[31] = 2;
+    same("interrupts", &interrupts, &[&guard, &t.interrupts[..], &guard].concat());
+    t.interrupts[31] = 0;
+    t.check_same(&before);
+}
+
+// ---- Words that name no request ----
+
+/// Each is one word off a request that would freeze, write or pass.
+fn unnamed() -> [RequestWords; 14] {
+    [
+        [7, 5, 0, 0, 0, 0, 0, 0],
+        [8, 5, 0, 0, 0, 0, 0, 0],
+        [(1 << 32) + ERROR, 5, 0, 0, 0, 0, 0, 0],
+        [u64::MAX; 8],
+        dma(5, 2, 0x3ABC, 4, 0),
+        dma(5, 1 << 32, 0x3ABC, 4, 0),
+        dma(5, u64::MAX, 0x3ABC, 4, 0),
+        dma(5, READ, 0x3ABC, 4, 1 << 32),
+        dma(5, WRITE, 0xFFFF_0070, 4, 1 << 32),
+        dma(5, READ, 0x20_0000, 4, u64::MAX),
+        dma(8, READ, 0x3ABC, 4, 1 << 32),
+        clear(2, 3),
+        clear(2, (1 << 32) + DMA_BIT),
+        clear(4, u64::MAX),
+    ]
+}
+
+#[test]
+fn words_that_name_no_request() {
+    let mut t = of_the_cases();
+    t.set_word(0x2018, 0x1234_5003);
+    t.set_interrupt(7, [2, 0x42, 5, 0]);
+    t.state[6] = 4;
+    t.check_list(&unnamed(), &[refuse(2, 0); 14], &[]);
+    for request in unnamed() {
+        t.keeps(request, refuse(2, 0));
+    }
+    // 1 comes first.
+    let mut short = t.clone();
+    short.state.pop();
+    short.check_list(&unnamed(), &[refuse(1, 0); 14], &[]);
+    // Also while the PE is stopped, and between other requests.
+    t.check_list(
+        &[error(5), dma(5, 2, 0x3ABC, 4, 0), clear(2, DMA_BIT), clear(2, 3), [7; 8]],
+        &[done(), refuse(2, 0), done(), refuse(2, 0), refuse(2, 0)],
+        &[State(6, 5), State(7, 12), State(8, 5)],
+    );
+}
+
+#[test]
+fn words_that_are_not_read() {
+    let mut t = of_the_cases();
+    t.set_word(0x2018, 0x1234_5003);
+    t.set_interrupt(7, [2, 0x42, 5, 0]);
+    t.set_m64(0, [0x1000_0000, 0x1000_0000, 1, 2]);
+    let served = [
+        (dma(5, READ, 0x3ABC, 4, 0xFFFF_FFFF), 6, pass(0x1234_5ABC, 2, 1)),
+        (load(0x1000_0000, 8), 3, pass(0x1000_0000, 2, 0)),
+        (store(0x1000_0000, 8), 3, pass(0x1000_0000, 2, 0)),
+        (clear(2, RECORD), 3, done()),
+        (end(7), 2, done()),
+        (priority(7, 5), 3, done()),
+    ];
+    for (mut request, used, answer) in served {
+        request[used..].fill(u64::MAX);
+        t.keeps(request, answer);
+    }
+    let mut request = error(5);
+    request[2..].fill(u64::MAX);
+    t.freezes(request, done(), &[(2, 12, 5)]);
+}

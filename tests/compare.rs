@@ -1,0 +1,739 @@
+// The exported function against the plain bridge: after every request the whole answer and every
+// word of every table.
+//
+//     compare GENERATE SEEDS LINES
+//
+// Each seed from 1 to SEEDS gives two inputs: the replay text that `GENERATE SEED LINES` writes,
+// and tables and requests made here, which go beyond the sizes and lengths of the text. On a
+// difference it prints the seed, the line, the request and both answers.
+
+#[path = "celltimber.rs"]
+mod celltimber;
+#[path = "../plain/replay.rs"]
+#[allow(dead_code)]
+mod replay;
+
+use celltimber::*;
+use replay::bridge::{Answer, Bridge, Name, Part, Request};
+use replay::Line;
+use std::fmt::LowerHex;
+use std::process::{exit, Command, Stdio};
+
+/// Stands in answer words before a call.
+const UNWRITTEN: u64 = 0x5555_AAAA_5555_AAAA;
+
+// ---- Words ----
+
+fn request_words(request: Request) -> RequestWords {
+    match request {
+        Request::Dma { requester, write, address, length, data } => {
+            dma(requester, if write { WRITE } else { READ }, address, length, u64::from(data))
+        }
+        Request::Load { address, width } => load(address, width),
+        Request::Store { address, width } => store(address, width),
+        Request::Error { requester } => error(requester),
+        Request::Clear { pe, part: Part::Mmio } => clear(pe, MMIO_BIT),
+        Request::Clear { pe, part: Part::Dma } => clear(pe, DMA_BIT),
+        Request::Clear { pe, part: Part::Record } => clear(pe, RECORD),
+        Request::End { interrupt } => end(interrupt),
+        Request::Priority { interrupt, priority: value } => priority(interrupt, value),
+    }
+}
+
+fn answer_words(answer: Answer) -> AnswerWords {
+    let name = match answer.name {
+        Name::Pass => PASS,
+        Name::Msi => MSI,
+        Name::Held => HELD,
+        Name::Ones => ONES,
+        Name::Drop => DROP,
+        Name::Refuse => REFUSE,
+        Name::Done => DONE,
+    };
+    let pe = answer.pe.unwrap_or(0);
+    let server = answer.server.unwrap_or(0);
+    let priority = answer.priority.unwrap_or(0);
+    [name, answer.reason, answer.value, answer.words, pe, server, priority, 0]
+}
+
+/// A request with its words.
+#[derive(Clone, Copy)]
+struct Asked {
+    request: Request,
+    words: RequestWords,
+}
+
+impl Asked {
+    fn of(request: Request) -> Asked {
+        Asked { request, words: request_words(request) }
+    }
+
+    /// Words that name no request are badly formed, as a load of width 0 is.
+    fn unnamed(words: RequestWords) -> Asked {
+        Asked { request: Request::Load { address: 0, width: 0 }, words }
+    }
+}
+
+// ---- Both bridges ----
+
+/// How often each answer and each reason came.
+#[derive(Default)]
+struct Counts {
+    requests: u64,
+    names: [u64; 7],
+    reasons: [u64; 16],
+}
+
+impl Counts {
+    fn add(&mut self, answer: &AnswerWords) {
+        self.requests += 1;
+        self.names[answer[0] as usize] += 1;
+        self.reasons[answer[1] as usize] += 1;
+    }
+
+    /// The count of the answer or reason that came least; 12 and 13 are in records only.
+    fn least(&self) -> u64 {
+        let refused = (1..=11).chain(14..=15).map(|reason| self.reasons[reason]);
+        self.names.iter().copied().chain(refused).min().unwrap_or(0)
+    }
+}
+
+/// The same tables twice: `proved` is lent to the exported function.
+#[derive(Clone, Default)]
+struct Pair {
+    plain: Bridge,
+    proved: Bridge,
+}
+
+fn serve(tables: &mut Bridge, requests: &[u64], answers: &mut [u64]) -> usize {
+    run(
+        tables.n,
+        tables.m,
+        tables.r,
+        &tables.requesters,
+        &tables.translation,
+        &tables.memory,
+        &tables.peers,
+        &mut tables.interrupts,
+        &tables.windows,
+        &tables.segments,
+        &mut tables.state,
+        requests,
+        answers,
+    )
+}
+
+impl Pair {
+    /// Both answer one request.
+    fn ask(&mut self, asked: &Asked, counts: &mut Counts) -> Result<AnswerWords, String> {
+        let wanted = answer_words(self.plain.handle(asked.request));
+        let mut answers = [UNWRITTEN; ANSWER_WORDS + 1];
+        let count = serve(&mut self.proved, &asked.words, &mut answers);
+        let given = &answers[..ANSWER_WORDS];
+        let told = |difference| {
+            let words = asked.words;
+            format!(
+                "request {:x?}\nproved  {:x?}\nplain   {:x?}\n{}",
+                words, given, wanted, difference
+            )
+        };
+        if count != 1 || answers[ANSWER_WORDS] != UNWRITTEN {
+            return Err(told(format!("{} served", count)));
+        }
+        if given != wanted {
+            return Err(told("another answer".to_string()));
+        }
+        self.same().map_err(told)?;
+        counts.add(&wanted);
+        Ok(wanted)
+    }
+
+    /// The whole list in one call gives these answers and the tables of `after`.
+    fn ask_all(
+        &mut self,
+        all: &[Asked],
+        wanted: &[AnswerWords],
+        after: &Pair,
+    ) -> Result<(), String> {
+        let requests: Vec<u64> = all.iter().flat_map(|asked| asked.words).collect();
+        let mut given = vec![UNWRITTEN; ANSWER_WORDS * wanted.len()];
+        let count = serve(&mut self.proved, &requests, &mut given);
+        if count != all.len() {
+            return Err(format!("{} requests, {} served", all.len(), count));
+        }
+        for (k, given) in given.chunks(ANSWER_WORDS).enumerate() {
+            if given != wanted[k] {
+                return Err(format!(
+                    "request {} {:x?}\nproved  {:x?}\nplain   {:x?}",
+                    k + 1,
+                    all[k].words,
+                    given,
+                    wanted[k]
+                ));
+            }
+        }
+        self.plain = after.plain.clone();
+        self.same()
+    }
+
+    fn same(&self) -> Result<(), String> {
+        let (a, b) = (&self.proved, &self.plain);
+        if a == b {
+            return Ok(());
+        }
+        same("requesters", &a.requesters, &b.requesters)?;
+        same("translation", &a.translation, &b.translation)?;
+        same("memory", &a.memory, &b.memory)?;
+        same("peers", &a.peers, &b.peers)?;
+        same("interrupts", &a.interrupts, &b.interrupts)?;
+        same("windows", &a.windows, &b.windows)?;
+        same("segments", &a.segments, &b.segments)?;
+        same("state", &a.state, &b.state)?;
+        Err("another size".to_string())
+    }
+}
+
+fn same<T: PartialEq + LowerHex>(name: &str, proved: &[T], plain: &[T]) -> Result<(), String> {
+    for (k, (proved, plain)) in proved.iter().zip(plain).enumerate() {
+        if proved != plain {
+            return Err(format!("word {} of {}: proved {:x}, plain {:x}", k, name, proved, plain));
+        }
+    }
+    Ok(())
+}
+
+// ---- Replay text ----
+
+fn compare_text(text: &[u8], counts: &mut Counts) -> Result<(), String> {
+    let mut pair = Pair::default();
+    for (k, line) in text.split(|&byte| byte == b'\n').enumerate() {
+        if let Some(Line::Ask(request)) = replay::parse(line) {
+            pair.ask(&Asked::of(request), counts).map_err(|difference| {
+                format!("line {}: {}\n{}", k + 1, String::from_utf8_lossy(line), difference)
+            })?;
+        } else {
+            replay::take(&mut pair.plain, line);
+            replay::take(&mut pair.proved, line);
+        }
+    }
+    Ok(())
+}
+
+// ---- Tables beyond the text ----
+
+/// SplitMix64.
+struct Random(u64);
+
+impl Random {
+    fn next(&mut self) -> u64 {
+        self.0 = self.0.wrapping_add(0x9E37_79B9_7F4A_7C15);
+        let mut z = self.0;
+        z = (z ^ (z >> 30)).wrapping_mul(0xBF58_476D_1CE4_E5B9);
+        z = (z ^ (z >> 27)).wrapping_mul(0x94D0_49BB_1331_11EB);
+        z ^ (z >> 31)
+    }
+
+    /// 0 to limit - 1; 0 if the limit is 0.
+    fn below(&mut self, limit: u64) -> u64 {
+        self.next() % limit.max(1)
+    }
+
+    /// low to high, both included.
+    fn between(&mut self, low: u64, high: u64) -> u64 {
+        low + self.below(high - low + 1)
+    }
+
+    fn percent(&mut self, percent: u64) -> bool {
+        self.below(100) < percent
+    }
+
+    fn pick(&mut self, choices: &[u64]) -> u64 {
+        choices[self.below(choices.len() as u64) as usize]
+    }
+
+    /// A number of any width up to 64 bits.
+    fn any(&mut self) -> u64 {
+        let bits = self.below(64);
+        self.next() >> bits
+    }
+
+    /// Mostly a number below the limit; else the limit, a number that is it in fewer bits, or any.
+    fn mostly_below(&mut self, limit: u64) -> u64 {
+        let below = self.below(limit);
+        match self.below(40) {
+            0 => limit,
+            1 => (1 << self.pick(&[8, 16, 32])) + below,
+            2 => self.any(),
+            _ => below,
+        }
+    }
+}
+
+/// Tables and requests on them.
+struct Scene {
+    random: Random,
+    pair: Pair,
+    /// A requester of each PE, or 0.
+    requester_of: Vec<u64>,
+    /// Interrupts that are used more than others.
+    hot: [u64; 3],
+}
+
+impl Scene {
+    fn new(mut random: Random, large: bool) -> Scene {
+        let n = match random.below(4) {
+            0 => random.pick(&[1, 63, 64, 65, 128, 129, 192, 193]),
+            1 => random.pick(&[255, 256, 256]),
+            _ => random.between(1, 256),
+        };
+        let m = match random.below(3) {
+            0 => random.pick(&[0, 1, 31, 2_047]),
+            1 => 2_048,
+            _ => random.below(2_049),
+        };
+        let r = match random.below(3) {
+            0 => random.pick(&[1, 255, 256, 65_535]),
+            1 => 65_536,
+            _ => random.between(1, 65_536),
+        };
+        let words = match random.below(4) {
+            _ if large => random.pick(&[1_048_575, 1_048_576]),
+            0 => random.pick(&[0, 1, 511, 512, 513]),
+            _ => random.between(1_024, 16_384),
+        };
+        let hot = [random.below(m), random.below(m), m.saturating_sub(1)];
+        let plain = Bridge::new(n, m, r, words);
+        let pair = Pair { proved: plain.clone(), plain };
+        let mut scene = Scene { random, pair, requester_of: vec![0; n as usize], hot };
+        scene.fill();
+        scene.pair.proved = scene.pair.plain.clone();
+        scene
+    }
+
+    // ---- Words of the tables ----
+
+    fn fill(&mut self) {
+        let (random, t) = (&mut self.random, &mut self.pair.plain);
+        let (n, memory_words) = (t.n, t.memory.len() as u64);
+        for (k, pe) in t.requesters.iter_mut().enumerate() {
+            *pe = random.mostly_below(n) as u16;
+            if u64::from(*pe) < n {
+                self.requester_of[*pe as usize] = k as u64;
+            }
+        }
+        for record in t.translation.chunks_mut(4) {
+            record.copy_from_slice(&entry(random, memory_words));
+        }
+        for word in &mut t.memory {
+            *word = table_word(random, memory_words);
+        }
+        let dense = random.percent(30);
+        for word in &mut t.peers {
+            *word = random.next() & random.next() & random.next();
+            if !dense {
+                *word &= random.next() & random.next() & random.next();
+            }
+        }
+        for record in t.interrupts.chunks_mut(4) {
+            record.copy_from_slice(&interrupt(random, n));
+        }
+        t.windows[..3].copy_from_slice(&m32(random));
+        for (k, window) in t.windows[3..].chunks_mut(4).enumerate() {
+            window.copy_from_slice(&m64(random, k as u64, n));
+        }
+        for pe in &mut t.segments {
+            *pe = random.mostly_below(n) as u16;
+        }
+        for record in t.state.chunks_mut(3) {
+            record[0] = random.next() & !3;
+            if random.percent(10) {
+                record.copy_from_slice(&[random.any(), random.any(), random.any()]);
+            }
+        }
+    }
+
+    /// One number or length off its rule; the kinds are counted from 0.
+    fn put_wrong_length(&mut self, kind: u64) {
+        let (random, t) = (&mut self.random, &mut self.pair.plain);
+        let longer = kind % 2 == 0;
+        match kind {
+            0 | 1 => resize(&mut t.requesters, longer),
+            2 | 3 => resize(&mut t.translation, longer),
+            4 | 5 => resize(&mut t.peers, longer),
+            6 | 7 => resize(&mut t.interrupts, longer),
+            8 | 9 => resize(&mut t.windows, longer),
+            10 | 11 => resize(&mut t.segments, longer),
+            12 | 13 => resize(&mut t.state, longer),
+            14 => t.memory.resize(1_048_577, 3),
+            // The numbers alone.
+            15 => t.n = random.pick(&[0, t.n - 1, t.n + 1, 257, (1 << 62) + t.n]),
+            16 => t.m = random.pick(&[t.m + 1, 2_049, (1 << 62) + t.m]),
+            17 => t.r = random.pick(&[0, t.r - 1, t.r + 1, 65_537, (1 << 32) + t.r]),
+            // One past a limit, with lengths that agree.
+            18 => *t = Bridge::new(257, t.m, t.r, 1_024),
+            19 => *t = Bridge::new(t.n, 2_049, t.r, 1_024),
+            20 => *t = Bridge::new(t.n, t.m, 65_537, 1_024),
+            21 => *t = Bridge::new(0, t.m, t.r, 1_024),
+            _ => *t = Bridge::new(t.n, t.m, 0, 1_024),
+        }
+        self.pair.proved = self.pair.plain.clone();
+    }
+
+    /// A fifth of all words are any.
+    fn put_any_words(&mut self) {
+        let (random, t) = (&mut self.random, &mut self.pair.plain);
+        for table in [
+            &mut t.translation,
+            &mut t.memory,
+            &mut t.peers,
+            &mut t.interrupts,
+            &mut t.windows,
+            &mut t.state,
+        ] {
+            for word in table {
+                if random.percent(20) {
+                    *word = random.any();
+                }
+            }
+        }
+        for table in [&mut t.requesters, &mut t.segments] {
+            for word in table {
+                if random.percent(20) {
+                    *word = random.any() as u16;
+                }
+            }
+        }
+        self.pair.proved = self.pair.plain.clone();
+    }
+
+    // ---- Requests ----
+
+    fn requester(&mut self) -> u64 {
+        let r = self.pair.plain.r;
+        self.random.mostly_below(r)
+    }
+
+    /// The PE of a requester; 0 if the table has none.
+    fn pe_of(&self, requester: u64) -> u64 {
+        let at = usize::try_from(requester).unwrap_or(usize::MAX);
+        self.pair.plain.requesters.get(at).map_or(0, |&pe| u64::from(pe))
+    }
+
+    fn interrupt(&mut self) -> u64 {
+        if self.random.percent(60) {
+            return self.random.pick(&self.hot);
+        }
+        let m = self.pair.plain.m;
+        self.random.mostly_below(m)
+    }
+
+    /// A PE whose stop bit is set is mostly released first.
+    fn release(&mut self, pe: u64, part: Part) -> Option<Asked> {
+        let bit = if part == Part::Dma { 2 } else { 1 };
+        if word(&self.pair.plain.state, 3, pe, 0) & bit != 0 && self.random.percent(80) {
+            return Some(Asked::of(Request::Clear { pe, part }));
+        }
+        None
+    }
+
+    /// The next requests: one, or two where a PE is released first.
+    fn requests(&mut self) -> Vec<Asked> {
+        let mut all = Vec::new();
+        let mut asked = match self.random.below(20) {
+            0..=7 => {
+                let requester = self.requester();
+                let pe = self.pe_of(requester);
+                all.extend(self.release(pe, Part::Dma));
+                self.dma(requester, pe)
+            }
+            8..=10 => {
+                let number = self.interrupt();
+                let pe = word(&self.pair.plain.interrupts, 4, number, 0);
+                let requester = word(&self.requester_of, 1, pe, 0);
+                all.extend(self.release(pe, Part::Dma));
+                self.msi(requester, number)
+            }
+            11..=13 => self.access(),
+            14 => Asked::of(Request::Error { requester: self.requester() }),
+            15 => self.clear(),
+            16 => Asked::of(Request::End { interrupt: self.interrupt() }),
+            17 | 18 => {
+                let priority = self.random.pick(&[0, 5, 254, 255, 255, 256, u64::MAX]);
+                Asked::of(Request::Priority { interrupt: self.interrupt(), priority })
+            }
+            _ => self.no_request(),
+        };
+        // The last two words of a request are not read.
+        asked.words[6] = self.random.next();
+        asked.words[7] = self.random.next();
+        all.push(asked);
+        all
+    }
+
+    fn dma(&mut self, requester: u64, pe: u64) -> Asked {
+        let random = &mut self.random;
+        let second = random.below(2);
+        let record =
+            [0, 1, 2, 3].map(|k| word(&self.pair.plain.translation, 8, pe, 4 * second + k));
+        let offset = match record[3] {
+            // A bypass: near its start or end.
+            0 => {
+                let edge = record[random.below(2) as usize] << 24;
+                edge.wrapping_add(random.pick(&[0, 0x1000, u64::MAX]))
+            }
+            code => {
+                let index_bits = record[2].wrapping_add(8);
+                let bits = record[1].wrapping_mul(index_bits).wrapping_add(code).wrapping_add(11);
+                let size = 1 << (bits & 63);
+                let past = if random.percent(4) { size } else { 0 };
+                past | random.next() & (size - 1)
+            }
+        };
+        let mut address = offset & ((1 << 59) - 1) | second << 59;
+        if random.percent(3) {
+            address = random.next();
+        }
+        let room = 4_096 - address % 4_096;
+        let length = match random.below(20) {
+            0 => random.pick(&[0, room + 1, 4_097, u64::MAX]),
+            1 => room,
+            _ => random.between(1, room),
+        };
+        let data = random.next() as u32;
+        Asked::of(Request::Dma { requester, write: random.percent(50), address, length, data })
+    }
+
+    fn msi(&mut self, requester: u64, number: u64) -> Asked {
+        let random = &mut self.random;
+        let in_data = number & 31 & random.next();
+        let in_address = (number & !in_data) << 4 | random.below(4) << 2;
+        let mut address = if random.percent(50) {
+            0xFFFF_0000 | in_address & 0xFFFF
+        } else {
+            1 << 60 | random.next() >> 4 & !0xF_FFFF | in_address & 0xF_FFFF
+        };
+        let (mut write, mut length) = (true, 4);
+        match random.below(20) {
+            0 => write = false,
+            1 => length = random.between(1, 3),
+            2 => address |= 1,
+            _ => {}
+        }
+        let data = (random.next() & 0xFFFF_FFE0 | in_data) as u32;
+        Asked::of(Request::Dma { requester, write, address, length, data })
+    }
+
+    /// A load or a store in a window, or just past it.
+    fn access(&mut self) -> Asked {
+        let random = &mut self.random;
+        let at = if random.percent(30) { 0 } else { 3 + 4 * random.below(16) };
+        let base = word(&self.pair.plain.windows, 1, at, 0);
+        let size = word(&self.pair.plain.windows, 1, at, 1);
+        let offset = match random.below(10) {
+            0 => size,
+            1 => size.wrapping_sub(1),
+            2 => u64::MAX,
+            _ => random.below(size),
+        };
+        let width = random.pick(&[1, 2, 4, 8, 8, 8, 8, 8, 8, 8, 8, 3, 0, 16]);
+        let mut address = base.wrapping_add(offset);
+        if random.percent(90) {
+            address &= !7;
+        }
+        if random.percent(50) {
+            Asked::of(Request::Load { address, width })
+        } else {
+            Asked::of(Request::Store { address, width })
+        }
+    }
+
+    fn clear(&mut self) -> Asked {
+        let part = [Part::Mmio, Part::Dma, Part::Record][self.random.below(3) as usize];
+        let n = self.pair.plain.n;
+        Asked::of(Request::Clear { pe: self.random.mostly_below(n), part })
+    }
+
+    /// Words that name no request: the kind, a direction, a part or data off its limit.
+    fn no_request(&mut self) -> Asked {
+        let random = &mut self.random;
+        let (kind, place, least) = match random.below(4) {
+            0 => (7, 0, 7),
+            1 => (DMA, 2, 2),
+            2 => (DMA, 5, 1 << 32),
+            _ => (CLEAR, 2, 3),
+        };
+        let mut words = [0; REQUEST_WORDS].map(|_: u64| random.below(8));
+        words[0] = kind;
+        words[place] = random.pick(&[least, least + 1, 1 << 32, u64::MAX]);
+        Asked::unnamed(words)
+    }
+}
+
+/// Word `place` of record `number`; 0 if the table has none.
+fn word(table: &[u64], record_words: u64, number: u64, place: u64) -> u64 {
+    let at = u128::from(record_words) * u128::from(number) + u128::from(place);
+    usize::try_from(at).ok().and_then(|at| table.get(at)).copied().unwrap_or(0)
+}
+
+/// One word longer or shorter.
+fn resize<T: Clone + Default>(table: &mut Vec<T>, longer: bool) {
+    let length = table.len();
+    table.resize(if longer || length == 0 { length + 1 } else { length - 1 }, T::default());
+}
+
+/// A translation entry: pages, a bypass, or one word of it off.
+fn entry(random: &mut Random, memory_words: u64) -> [u64; 4] {
+    let page_code = random.pick(&[1, 5, 13, 17]);
+    let table_code = match random.below(4) {
+        0 => random.between(1, 31),
+        1 => random.between(1, 4),
+        _ => 1,
+    };
+    let (page_bits, index_bits) = (page_code + 11, table_code + 8);
+    let levels = random.between(1, ((59 - page_bits) / index_bits).clamp(1, 5));
+    let base = random.below(memory_words >> index_bits) << (index_bits + 3);
+    let mut record = [base, levels, table_code, page_code];
+    if random.percent(25) {
+        let (a, b) = (random.below((1 << 35) + 1), random.below((1 << 35) + 1));
+        record = [a.min(b), a.max(b), random.between(1, 31), 0];
+    }
+    if random.percent(12) {
+        let word = random.pick(&[0, 6, 32, 33, 0x800, (1 << 32) + 1, (1 << 35) + 1, u64::MAX]);
+        record[random.below(4) as usize] = word;
+    }
+    record
+}
+
+/// A table word: mostly one that leads to a table in memory, which as a last word passes too.
+fn table_word(random: &mut Random, memory_words: u64) -> u64 {
+    match random.below(12) {
+        0 => 0,
+        1 => random.next(),
+        2 => random.next() & !3,
+        _ => {
+            let bits = random.pick(&[9, 9, 10, 11, 12]);
+            let table = random.below(memory_words >> bits) << (bits + 3);
+            table | random.next() & 0xFFC | random.pick(&[1, 2, 3, 3, 3])
+        }
+    }
+}
+
+fn interrupt(random: &mut Random, n: u64) -> [u64; 4] {
+    let priority = random.pick(&[0, 5, 254, 255, 255]);
+    let mut record = [random.mostly_below(n), random.below(1 << 24), priority, random.below(4)];
+    if random.percent(8) {
+        let word = random.pick(&[4, 256, 1 << 24, 1 << 32, u64::MAX]);
+        record[random.below(4) as usize] = word;
+    }
+    record
+}
+
+fn m32(random: &mut Random) -> [u64; 3] {
+    let bits = random.between(19, 33);
+    let size = 1 << bits;
+    let pci = random.below((1 << 32) / size) * size;
+    let mut window = [random.any() >> bits << bits, size, pci];
+    if random.percent(15) {
+        window[random.below(3) as usize] = random.any();
+    }
+    window
+}
+
+fn m64(random: &mut Random, number: u64, n: u64) -> [u64; 4] {
+    let bits = random.pick(&[27, 28, 28, 32, 36, 40, 50, 50, 51]);
+    let base = match random.below(4) {
+        0 => u64::MAX,
+        1 => random.any(),
+        _ => number << 51,
+    };
+    let mode = random.pick(&[1, 1, 1, 2, 2, 2, 0, 3]);
+    let mut window = [base >> bits << bits, 1 << bits, mode, random.mostly_below(n)];
+    if random.percent(8) {
+        window[random.below(4) as usize] = random.any();
+    }
+    window
+}
+
+/// Tables to each seed.
+const SCENES: u64 = 6;
+
+/// The kinds of wrong lengths; each seed has one.
+const WRONG_LENGTHS: u64 = 23;
+
+/// Requests on one scene, one by one and then in one list.
+fn compare_scene(seed: u64, number: u64, counts: &mut Counts) -> Result<(), String> {
+    let large = number == 0 && seed % 3 == 0;
+    let mut scene = Scene::new(Random(seed << 8 | number), large);
+    match number {
+        1 => scene.put_wrong_length(seed % WRONG_LENGTHS),
+        2 => scene.put_any_words(),
+        _ => {}
+    }
+    // Fewer where memory may be of full size.
+    let limit = if large || number == 1 { 40 } else { 600 };
+    let mut again = scene.pair.clone();
+    let (mut all, mut answers) = (Vec::new(), Vec::new());
+    while all.len() < limit {
+        for asked in scene.requests() {
+            let answer = scene.pair.ask(&asked, counts).map_err(|difference| {
+                format!("tables {}, request {}:\n{}", number, all.len() + 1, difference)
+            })?;
+            all.push(asked);
+            answers.push(answer);
+        }
+    }
+    again
+        .ask_all(&all, &answers, &scene.pair)
+        .map_err(|difference| format!("tables {}, one list:\n{}", number, difference))
+}
+
+// ---- The program ----
+
+fn generated(generate: &str, seed: u64, lines: u64) -> Result<Vec<u8>, String> {
+    let output = Command::new(generate)
+        .args([seed.to_string(), lines.to_string()])
+        .stderr(Stdio::inherit())
+        .output()
+        .map_err(|error| format!("{}: {}", generate, error))?;
+    if output.status.success() {
+        Ok(output.stdout)
+    } else {
+        Err(format!("{}: {}", generate, output.status))
+    }
+}
+
+fn compare(generate: &str, seeds: u64, lines: u64) -> Result<(), String> {
+    let (mut text, mut tables) = (Counts::default(), Counts::default());
+    for seed in 1..=seeds {
+        let of_seed = |difference| format!("seed {}, {}", seed, difference);
+        let input = generated(generate, seed, lines)?;
+        compare_text(&input, &mut text).map_err(of_seed)?;
+        for number in 0..SCENES {
+            compare_scene(seed, number, &mut tables).map_err(of_seed)?;
+        }
+    }
+    for (name, counts) in [("replay text", text), ("tables beyond it", tables)] {
+        let least = counts.least();
+        println!(
+            "{}: {} inputs, {} requests, no difference; every answer and reason {} times or more",
+            name, seeds, counts.requests, least
+        );
+        if least < 100 {
+            return Err(format!("{}: an answer or reason came {} times, not 100", name, least));
+        }
+    }
+    Ok(())
+}
+
+fn main() {
+    let arguments: Vec<String> = std::env::args().skip(1).collect();
+    let numbers: Vec<u64> = arguments.iter().skip(1).filter_map(|text| text.parse().ok()).collect();
+    if arguments.len() != 3 || numbers.len() != 2 {
+        eprintln!("usage: compare GENERATE SEEDS LINES");
+        exit(2);
+    }
+    if let Err(difference) = compare(&arguments[0], numbers[0], numbers[1]) {
+        println!("{}", difference);
+        exit(1);
+    }
+}
