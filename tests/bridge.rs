@@ -647,12 +647,19 @@ fn smallest() {
 
 // ---- Limits of the words ----
 
-#[test]
-fn entry_limits() {
-    // Table word 0 leads to its own table, and as a last word to its page.
+/// Word 0 of the table at 0x1000 leads to that table again, and as a last word to its own page.
+fn of_one_pe() -> Tables {
     let mut t = Tables::new(1, 0, 1, 0x400);
+    t.set_word(0, 3);
     t.set_word(0x1000, 0x1003);
-    let good: [([u64; 4], u64, u64); 9] = [
+    t
+}
+
+#[test]
+fn good_entries() {
+    let mut t = of_one_pe();
+    // The entry, the address that 0x123 gives, and the words read.
+    let entries: [([u64; 4], u64, u64); 9] = [
         ([0x1000, 5, 1, 1], 0x1123, 5),
         ([0x1000, 4, 1, 5], 0x123, 4),
         ([0x1000, 1, 1, 13], 0x123, 1),
@@ -664,12 +671,16 @@ fn entry_limits() {
         ([0, 1 << 35, 1, 0], 0x123, 0),
         ([0, (1 << 35) - 1, 1, 0], 0x123, 0),
     ];
-    t.set_word(0, 3);
-    for (entry, address, words) in good {
+    for (entry, address, words) in entries {
         t.set_entry(0, FIRST, entry);
         t.keeps(dma(0, READ, 0x123, 1, 0), pass(address, 0, words));
     }
-    let bad = [
+}
+
+#[test]
+fn bad_entries() {
+    let mut t = of_one_pe();
+    let mut entries = vec![
         [0x1000, 0, 1, 1],
         [0x1000, 6, 1, 1],
         [0x1000, (1 << 32) + 1, 1, 1],
@@ -690,12 +701,11 @@ fn entry_limits() {
         [2, 1, 1, 0],
         [0, (1 << 35) + 1, 1, 0],
     ];
-    for entry in bad {
-        t.set_entry(0, FIRST, entry);
-        t.would_freeze(dma(0, READ, 0x123, 1, 0), refuse(6, 0), (0, 6, 0x123));
-    }
     for page_code in [2, 3, 4, 6, 9, 12, 14, 16, 18, 0x101, (1 << 32) + 1, u64::MAX] {
-        t.set_entry(0, FIRST, [0x1000, 1, 1, page_code]);
+        entries.push([0x1000, 1, 1, page_code]);
+    }
+    for entry in entries {
+        t.set_entry(0, FIRST, entry);
         t.would_freeze(dma(0, READ, 0x123, 1, 0), refuse(6, 0), (0, 6, 0x123));
     }
 }
@@ -761,9 +771,8 @@ fn interrupt_states() {
 }
 
 #[test]
-fn window_limits() {
-    let mut t = Tables::new(1, 0, 1, 0);
-    // M32: base, size, PCI base.
+fn m32_limits() {
+    let mut t = of_one_pe();
     let open = [
         ([1 << 40, 1 << 20, 0xFFF0_0000], 0xFFF0_0000),
         ([1 << 40, 1 << 32, 0], 0),
@@ -791,7 +800,11 @@ fn window_limits() {
         t.set_m32(window);
         t.keeps(load(window[0], 8), refuse(10, 0));
     }
-    // M64: base, size, mode, PE.
+}
+
+#[test]
+fn m64_limits() {
+    let mut t = of_one_pe();
     for window in [[1 << 60, 1 << 28, 1, 0], [1 << 60, 1 << 50, 2, 9], [0, 1 << 50, 1, 0]] {
         t.set_m64(15, window);
         t.keeps(load(window[0] + 8, 8), pass(window[0] + 8, 0, 0));

@@ -137,8 +137,11 @@ impl Pair {
                 words, given, wanted, difference
             )
         };
-        if count != 1 || answers[ANSWER_WORDS] != UNWRITTEN {
+        if count != 1 {
             return Err(told(format!("{} served", count)));
+        }
+        if answers[ANSWER_WORDS] != UNWRITTEN {
+            return Err(told("the word after the answer is written".to_string()));
         }
         if given != wanted {
             return Err(told("another answer".to_string()));
