@@ -20,22 +20,15 @@
 use mathlib.Core.List.{List, [], _∷_, _++_}
 use Prim.Native.Nat.{ℕ, _-_, _*_, _/_}
 use lib.ListN.{set, replicate}
-use Rattle.kinds.specs.Words.{mapAt}
 use Rattle.kinds.specs.declared.answer.Answer.{Answer}
 use Rattle.kinds.specs.declared.answer.Answer.the-variants.{Pass, Refuse}
 use Rattle.kinds.specs.declared.answer.Reason.{Reason}
 use Rattle.kinds.specs.declared.request.Direction.the-variants.{Read, Write}
 use Rattle.kinds.specs.declared.request.Request.{Request}
 use Rattle.kinds.specs.declared.request.Request.the-variants.{Dma, Load, Store}
-use Rattle.profile.specs.Tables.{Tables, Live, sized, named}
-use Rattle.profile.specs.Freeze.{marked, frozen, released}
-use Rattle.profile.specs.Entry.{classOf, pageSize, span, aligned, tableGood, bypassGood, pagesGood, walks, inBypass, unwalked}
-use Rattle.profile.specs.Walk.{leads, turn, walkFrom, allows, arriveAt}
-use Rattle.profile.specs.Msi.{ranged, number32, number64, msiFormed, presents, arrived, announced, delivered, msi}
-use Rattle.profile.specs.Firmware.{ends, prioritized}
-use Rattle.profile.specs.Windows.{isPower, covers, segmentOf, m32Open, m64Open, m64Pe, m64, m64From, route, onesOf}
-use Rattle.profile.specs.Step.{accessFormed, dmaFormed, formed, served, accessed, ask, finish, act, settled, decidedBy, actBy, answered, after}
-use Rattle.profile.specs.Owner.{owner}
+use Rattle.profile.specs.Opened.{opened}
+use Rattle.profile.specs.Tables.{Tables, Live}
+use Rattle.profile.specs.Step.{answered, after}
 
 pub record Case : Type 0 where
   pub tables : Tables
@@ -51,7 +44,7 @@ pub record Shown : Type 0 where
 
 -- to compute it is to compute the whole definition
 unfoldable pub given : Case → Shown
-unfolding mapAt sized named marked frozen released classOf pageSize span aligned tableGood bypassGood pagesGood walks inBypass unwalked leads turn walkFrom allows arriveAt ranged number32 number64 msiFormed presents arrived announced delivered msi ends prioritized isPower covers segmentOf m32Open m64Open m64Pe m64 m64From route onesOf accessFormed dmaFormed formed owner served accessed ask finish act settled decidedBy actBy
+unfolding opened
 given c = record { answer = answered (c .tables) (c .memory) (c .live) (c .request); left = after (c .tables) (c .memory) (c .live) (c .request) }
 
 unfoldable pub stated : Case → Shown
