@@ -9,9 +9,8 @@ use lib.ListN.{length, drop, getD, set, drop-of-length-le, length-append, List·
 use lib.Seq.{sets, drop-cons}
 use borrow.Author.Tests.{lt-ltb, le-ltb, lt-leb, le-leb}
 use Rattle.fields.specs.Bytes.{bytes}
-use Rattle.kinds.specs.declared.answer.Numbers.{Numbers}
-use Rattle.report.specs.Text.{glyph, digits, placesFrom, places, decimal, hexadecimal, names, nameOf, ended, headOf, tailOf, answerLine}
-use Rattle.report.specs.TextLaws.{length-ended, length-digits, line-most}
+use Rattle.report.specs.Text.{glyph, digits, placesFrom, places, decimal, hexadecimal, names, nameOf, ended, headOf, tailOf}
+use Rattle.report.specs.TextLaws.{length-ended, length-digits}
 use Rattle.report.specs.Written.{placed, written}
 use Rattle.report.specs.WrittenLaws.{sets-append, sets-last, written-is}
 use Rattle.report.specs.declared.Written.the-variants.{To, NoRoom}
@@ -160,6 +159,3 @@ module _ (m : ℕ) (o : List ℕ) (a : ℕ) (t : List ℕ) where
 
     pub text-written : {q : List ℕ} → length t ≤ m → q ≡ sets o a t → q ≡ written m o a t
     text-written k e = e ∙ written-is m o a t (omega arith) k
-
-pub line-short : (n : ℕ) (x : Numbers) → length (answerLine n x) ≤ 87
-line-short n x = line-most n x

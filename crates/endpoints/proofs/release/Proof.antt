@@ -1,3 +1,4 @@
+-- `endpoints::release` meets its contract. Assumes nothing.
 use Rattle.endpoints.proofs.Laws as laws
 use borrow.Author.Needs.{needs}
 use Rattle.endpoints.proofs.release.Statement.{statement}

@@ -1,3 +1,4 @@
+-- `endpoints::stop` meets its contract. Assumes nothing.
 use Rattle.endpoints.proofs.Laws as laws
 use borrow.Author.Needs.{needs}
 use Rattle.endpoints.proofs.stop.Statement.{statement}

@@ -1,3 +1,4 @@
+-- `fields::digit` meets its contract. Assumes nothing.
 use Rattle.kinds.specs.Tests.{tests}
 use borrow.Author.Needs.{needs}
 use Rattle.fields.proofs.digit.Statement.{statement}

@@ -1,3 +1,4 @@
+-- `fields::field` meets its contract. Assumes nothing.
 use Rattle.fields.proofs.Laws as laws
 use borrow.Author.Needs.{needs}
 use Rattle.fields.proofs.field.Statement.{statement}

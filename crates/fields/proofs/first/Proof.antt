@@ -1,3 +1,4 @@
+-- `fields::first` meets its contract. Assumes nothing.
 use Rattle.fields.proofs.Laws as laws
 use borrow.Author.Needs.{needs}
 use Rattle.fields.proofs.first.Statement.{statement}

@@ -1,3 +1,4 @@
+-- `fields::last_number` meets its contract. Assumes nothing.
 use Rattle.fields.proofs.Laws as laws
 use borrow.Author.Needs.{needs}
 use Rattle.fields.proofs.last_number.Statement.{statement}

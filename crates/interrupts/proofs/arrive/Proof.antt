@@ -1,3 +1,4 @@
+-- `interrupts::arrive` meets its contract. Assumes nothing.
 use Rattle.interrupts.proofs.Laws as laws
 use borrow.Author.Needs.{needs}
 use Rattle.interrupts.proofs.arrive.Statement.{statement}

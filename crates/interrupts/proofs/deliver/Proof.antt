@@ -1,3 +1,4 @@
+-- `interrupts::deliver` meets its contract. Assumes nothing.
 use Rattle.interrupts.proofs.Laws as laws
 use Rattle.profile.specs.Msi.{delivered}
 use Rattle.kinds.specs.Tests.{tests}

@@ -1,3 +1,4 @@
+-- `interrupts::end` meets its contract. Assumes nothing.
 use Rattle.interrupts.proofs.Laws as laws
 use borrow.Author.Needs.{needs}
 use Rattle.interrupts.proofs.end.Statement.{statement}

@@ -1,3 +1,4 @@
+-- `interrupts::ended` meets its contract. Assumes nothing.
 use Rattle.profile.specs.Firmware.{ends}
 use Rattle.kinds.specs.Tests.{tests}
 use borrow.Author.Needs.{needs}

@@ -1,3 +1,4 @@
+-- `interrupts::in_range` meets its contract. Assumes nothing.
 use Rattle.profile.specs.Msi.{ranged}
 use Rattle.kinds.specs.Tests.{tests}
 use borrow.Author.Needs.{needs}

@@ -1,3 +1,4 @@
+-- `interrupts::msi_formed` meets its contract. Assumes nothing.
 use Rattle.interrupts.proofs.Laws as laws
 use borrow.Author.Needs.{needs}
 use Rattle.interrupts.proofs.msi_formed.Statement.{statement}

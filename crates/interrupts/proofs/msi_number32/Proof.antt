@@ -1,3 +1,4 @@
+-- `interrupts::msi_number32` meets its contract. Assumes nothing.
 use Rattle.profile.specs.Msi.{number32}
 use borrow.Author.Needs.{needs}
 use Rattle.interrupts.proofs.msi_number32.Statement.{statement}

@@ -1,3 +1,4 @@
+-- `interrupts::msi_number64` meets its contract. Assumes nothing.
 use Rattle.profile.specs.Msi.{number64}
 use borrow.Author.Needs.{needs}
 use Rattle.interrupts.proofs.msi_number64.Statement.{statement}

@@ -1,3 +1,4 @@
+-- `interrupts::presented` meets its contract. Assumes nothing.
 use Rattle.profile.specs.Msi.{presents}
 use Rattle.kinds.specs.Tests.{tests}
 use Rattle.interrupts.proofs.presented.Statement.{statement}

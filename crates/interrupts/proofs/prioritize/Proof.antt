@@ -1,3 +1,4 @@
+-- `interrupts::prioritize` meets its contract. Assumes nothing.
 use Rattle.profile.specs.Firmware.{prioritized}
 use Rattle.kinds.specs.Tests.{tests}
 use borrow.Author.Needs.{needs}

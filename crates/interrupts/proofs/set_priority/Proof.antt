@@ -1,3 +1,4 @@
+-- `interrupts::set_priority` meets its contract. Assumes nothing.
 use Rattle.interrupts.proofs.Laws as laws
 use borrow.Author.Needs.{needs}
 use Rattle.interrupts.proofs.set_priority.Statement.{statement}

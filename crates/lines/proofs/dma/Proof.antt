@@ -1,3 +1,4 @@
+-- `lines::dma` meets its contract. Assumes nothing.
 use Rattle.lines.specs.Line.{dma}
 use Rattle.kinds.specs.Tests.{tests}
 use borrow.Author.Needs.{needs}

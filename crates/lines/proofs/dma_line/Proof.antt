@@ -1,3 +1,4 @@
+-- `lines::dma_line` meets its contract. Assumes nothing.
 use Rattle.lines.proofs.FormLaws as laws
 use borrow.Author.Needs.{needs}
 use Rattle.lines.proofs.dma_line.Statement.{statement}

@@ -1,3 +1,4 @@
+-- `lines::end_line` meets its contract. Assumes nothing.
 use Rattle.lines.proofs.FormLaws as laws
 use borrow.Author.Needs.{needs}
 use Rattle.lines.proofs.end_line.Statement.{statement}

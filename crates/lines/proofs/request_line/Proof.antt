@@ -1,3 +1,4 @@
+-- `lines::request_line` meets its contract. Assumes nothing.
 use Rattle.lines.proofs.FormLaws as laws
 use borrow.Author.Needs.{needs}
 use Rattle.lines.proofs.request_line.Statement.{statement}

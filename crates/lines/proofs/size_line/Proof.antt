@@ -1,3 +1,4 @@
+-- `lines::size_line` meets its contract. Assumes nothing.
 use Rattle.lines.proofs.FormLaws as laws
 use borrow.Author.Needs.{needs}
 use Rattle.lines.proofs.size_line.Statement.{statement}

@@ -1,3 +1,4 @@
+-- `lines::sized` meets its contract. Assumes nothing.
 use Rattle.lines.specs.Line.{sized}
 use Rattle.kinds.specs.Tests.{tests}
 use Rattle.lines.proofs.sized.Statement.{statement}

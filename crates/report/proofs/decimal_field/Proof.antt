@@ -1,3 +1,4 @@
+-- `report::decimal_field` meets its contract. Assumes nothing.
 use Rattle.report.proofs.Laws as laws
 use borrow.Author.Needs.{needs}
 use Rattle.report.proofs.decimal_field.Statement.{statement}

@@ -1,3 +1,4 @@
+-- `report::glyph` meets its contract. Assumes nothing.
 use Rattle.kinds.specs.Tests.{tests}
 use borrow.Author.Needs.{needs}
 use Rattle.report.proofs.glyph.Statement.{statement}

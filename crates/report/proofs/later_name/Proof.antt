@@ -1,3 +1,4 @@
+-- `report::later_name` meets its contract. Assumes nothing.
 use Rattle.report.specs.Text.{nameOf}
 use Rattle.report.proofs.Laws as laws
 use borrow.Author.Needs.{needs}

@@ -1,3 +1,4 @@
+-- `report::name_field` meets its contract. Assumes nothing.
 use Rattle.report.specs.Text.{nameOf}
 use Rattle.report.proofs.Laws as laws
 use borrow.Author.Needs.{needs}

@@ -1,3 +1,4 @@
+-- `report::put_tail` meets its contract. Assumes nothing.
 use Rattle.report.proofs.Laws as laws
 use borrow.Author.Needs.{needs}
 use Rattle.report.proofs.put_tail.Statement.{statement}

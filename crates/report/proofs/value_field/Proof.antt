@@ -1,3 +1,4 @@
+-- `report::value_field` meets its contract. Assumes nothing.
 use Rattle.report.proofs.Laws as laws
 use borrow.Author.Needs.{needs}
 use Rattle.report.proofs.value_field.Statement.{statement}

@@ -1,3 +1,4 @@
+-- `report::write_header` meets its contract. Assumes nothing.
 use Rattle.report.proofs.Laws as laws
 use borrow.Author.Needs.{needs}
 use Rattle.report.proofs.write_header.Statement.{statement}

@@ -1,4 +1,6 @@
+-- `report::write_line` meets its contract. Assumes nothing.
 use Rattle.report.proofs.Laws as laws
+use Rattle.report.specs.TextLaws.{line-most}
 use borrow.Author.Needs.{needs}
 use Rattle.report.proofs.write_line.Statement.{statement}
 use Rattle.report.proofs.write_line.Tie as tie
@@ -19,7 +21,7 @@ same-length : tie.Need-same-length
 same-length c = search needs
 
 returns-3 : tie.Need-returns-3
-returns-3 c = search (laws.placed-to, laws.text-written, laws.line-short)
+returns-3 c = search (laws.placed-to, laws.text-written, line-most)
 
 pub write-line-spec : {M : Type 1} → statement M
 write-line-spec =

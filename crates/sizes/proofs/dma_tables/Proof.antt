@@ -1,3 +1,4 @@
+-- `sizes::dma_tables` meets its contract. Assumes nothing.
 use Rattle.kinds.specs.Tests.{tests}
 use Rattle.sizes.specs.Parts.{dmaTables}
 use borrow.Author.Needs.{needs}

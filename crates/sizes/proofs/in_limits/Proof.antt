@@ -1,3 +1,4 @@
+-- `sizes::in_limits` meets its contract. Assumes nothing.
 use Rattle.kinds.specs.Tests.{tests}
 use Rattle.sizes.specs.Parts.{limited}
 use Rattle.sizes.proofs.in_limits.Statement.{statement}

@@ -1,3 +1,4 @@
+-- `sizes::other_tables` meets its contract. Assumes nothing.
 use Rattle.kinds.specs.Tests.{tests}
 use Rattle.sizes.specs.Parts.{otherTables}
 use borrow.Author.Needs.{needs}

@@ -1,3 +1,4 @@
+-- `sizes::sized` meets its contract. Assumes nothing.
 use Rattle.sizes.proofs.Laws as laws
 use borrow.Author.Needs.{needs}
 use Rattle.sizes.proofs.sized.Statement.{statement}

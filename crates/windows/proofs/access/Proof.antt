@@ -1,3 +1,4 @@
+-- `windows::access` meets its contract. Assumes nothing.
 use Rattle.windows.proofs.Laws as laws
 use borrow.Author.Needs.{needs}
 use Rattle.windows.proofs.access.Statement.{statement}

@@ -1,3 +1,4 @@
+-- `windows::access_formed` meets its contract. Assumes nothing.
 use Rattle.profile.specs.Step.{accessFormed}
 use Rattle.windows.proofs.Laws as laws
 use Rattle.kinds.specs.Tests.{tests}

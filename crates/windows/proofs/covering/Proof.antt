@@ -1,3 +1,4 @@
+-- `windows::covering` meets its contract. Assumes nothing.
 use Rattle.profile.specs.Windows.{covers}
 use Rattle.kinds.specs.Tests.{tests}
 use borrow.Author.Needs.{needs}

@@ -1,3 +1,4 @@
+-- `windows::is_multiple` meets its contract. Assumes nothing.
 use Rattle.windows.proofs.Powers as powers
 use Rattle.windows.proofs.is_multiple.Statement.{statement}
 use Rattle.windows.proofs.is_multiple.Tie as tie

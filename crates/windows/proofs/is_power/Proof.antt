@@ -1,3 +1,4 @@
+-- `windows::is_power` meets its contract. Assumes nothing.
 use Rattle.windows.proofs.Powers as powers
 use borrow.Author.Needs.{needs}
 use Rattle.windows.proofs.is_power.Statement.{statement}

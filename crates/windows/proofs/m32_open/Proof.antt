@@ -1,3 +1,4 @@
+-- `windows::m32_open` meets its contract. Assumes nothing.
 use Rattle.windows.proofs.Laws as laws
 use borrow.Author.Needs.{needs}
 use Rattle.windows.proofs.m32_open.Statement.{statement}

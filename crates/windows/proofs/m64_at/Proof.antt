@@ -1,3 +1,4 @@
+-- `windows::m64_at` meets its contract. Assumes nothing.
 use Rattle.windows.proofs.Laws as laws
 use borrow.Author.Needs.{needs}
 use Rattle.windows.proofs.m64_at.Statement.{statement}

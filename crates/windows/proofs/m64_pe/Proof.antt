@@ -1,3 +1,4 @@
+-- `windows::m64_pe` meets its contract. Assumes nothing.
 use Rattle.profile.specs.Windows.{m64Pe}
 use Rattle.windows.proofs.Laws as laws
 use Rattle.kinds.specs.Tests.{tests}

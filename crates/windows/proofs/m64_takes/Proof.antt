@@ -1,3 +1,4 @@
+-- `windows::m64_takes` meets its contract. Assumes nothing.
 use Rattle.windows.proofs.Laws as laws
 use borrow.Author.Needs.{needs}
 use Rattle.windows.proofs.m64_takes.Statement.{statement}

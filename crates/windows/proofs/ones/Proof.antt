@@ -1,3 +1,4 @@
+-- `windows::ones` meets its contract. Assumes nothing.
 use Rattle.windows.proofs.Laws as laws
 use borrow.Author.Needs.{needs}
 use Rattle.windows.proofs.ones.Statement.{statement}

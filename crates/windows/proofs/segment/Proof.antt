@@ -1,3 +1,4 @@
+-- `windows::segment` meets its contract. Assumes nothing.
 use Rattle.windows.proofs.Powers as powers
 use borrow.Author.Needs.{needs}
 use Rattle.windows.proofs.segment.Statement.{statement}

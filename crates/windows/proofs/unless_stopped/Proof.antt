@@ -1,3 +1,4 @@
+-- `windows::unless_stopped` meets its contract. Assumes nothing.
 use Rattle.kinds.specs.Tests.{tests}
 use Rattle.windows.proofs.unless_stopped.Statement.{statement}
 use Rattle.windows.proofs.unless_stopped.Tie as tie

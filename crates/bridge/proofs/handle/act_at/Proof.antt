@@ -1,3 +1,4 @@
+-- `bridge::handle::act_at` meets its contract. Assumes nothing.
 use Rattle.bridge.proofs.HandleLaws as laws
 use borrow.Author.Needs.{needs}
 use Rattle.bridge.proofs.handle.act_at.Statement.{statement}

@@ -1,3 +1,4 @@
+-- `bridge::layout::decode_clear` meets its contract. Assumes nothing.
 use Rattle.kinds.specs.Tests.{tests}
 use Rattle.bridge.specs.Layout.{decodedClear}
 use Rattle.bridge.proofs.layout.decode_clear.Statement.{statement}

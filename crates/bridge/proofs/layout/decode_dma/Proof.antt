@@ -1,3 +1,4 @@
+-- `bridge::layout::decode_dma` meets its contract. Assumes nothing.
 use borrow.Author.Needs.{needs}
 use Rattle.kinds.specs.Tests.{tests}
 use Rattle.bridge.specs.Layout.{decodedDma}

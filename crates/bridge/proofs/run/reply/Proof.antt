@@ -1,3 +1,4 @@
+-- `bridge::run::reply` meets its contract. Assumes nothing.
 use Rattle.bridge.proofs.RunLaws as laws
 use borrow.Author.Needs.{needs}
 use Rattle.bridge.proofs.run.reply.Statement.{statement}

@@ -1,3 +1,4 @@
+-- `decision::access::access_of` meets its contract. Assumes nothing.
 use Rattle.decision.proofs.SettleLaws as laws
 use borrow.Author.Needs.{needs}
 use Rattle.decision.proofs.access.access_of.Statement.{statement}

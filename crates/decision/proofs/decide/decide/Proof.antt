@@ -1,3 +1,4 @@
+-- `decision::decide::decide` meets its contract. Assumes nothing.
 use Rattle.decision.proofs.SettleLaws as laws
 use borrow.Author.Needs.{needs}
 use Rattle.decision.proofs.decide.decide.Statement.{statement}

@@ -1,3 +1,4 @@
+-- `decision::decide::is_formed` meets its contract. Assumes nothing.
 use Rattle.profile.specs.Step.{formed}
 use Rattle.decision.proofs.SettleLaws as laws
 use borrow.Author.Needs.{needs}

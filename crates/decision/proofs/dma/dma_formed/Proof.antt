@@ -1,3 +1,4 @@
+-- `decision::dma::dma_formed` meets its contract. Assumes nothing.
 use Rattle.profile.specs.Step.{dmaFormed}
 use Rattle.kinds.specs.Tests.{tests}
 use borrow.Author.Needs.{needs}

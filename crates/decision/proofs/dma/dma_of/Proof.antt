@@ -1,3 +1,4 @@
+-- `decision::dma::dma_of` meets its contract. Assumes nothing.
 use Rattle.decision.proofs.DecideLaws as laws
 use borrow.Author.Needs.{needs}
 use Rattle.decision.proofs.dma.dma_of.Statement.{statement}

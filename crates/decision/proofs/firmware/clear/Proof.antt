@@ -1,3 +1,4 @@
+-- `decision::firmware::clear` meets its contract. Assumes nothing.
 use Rattle.profile.specs.Step.{ask, finish}
 use Rattle.profile.specs.Owner.{owner}
 use Rattle.decision.proofs.DecideLaws as laws

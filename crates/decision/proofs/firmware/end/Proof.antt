@@ -1,3 +1,4 @@
+-- `decision::firmware::end` meets its contract. Assumes nothing.
 use Rattle.profile.specs.Owner.{owner}
 use Rattle.decision.proofs.DecideLaws as laws
 use borrow.Author.Needs.{needs}

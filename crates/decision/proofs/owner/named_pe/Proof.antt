@@ -1,3 +1,4 @@
+-- `decision::owner::named_pe` meets its contract. Assumes nothing.
 use borrow.Author.Needs.{needs}
 use Rattle.kinds.specs.Tests.{tests}
 use Rattle.profile.specs.Tables.{named}

@@ -1,3 +1,4 @@
+-- `decision::owner::of_request` meets its contract. Assumes nothing.
 use Rattle.profile.specs.Owner.{owner}
 use Rattle.decision.proofs.OwnerLaws as laws
 use borrow.Author.Needs.{needs}

@@ -1,3 +1,4 @@
+-- `decision::owner::of_requester` meets its contract. Assumes nothing.
 use borrow.Author.Needs.{needs}
 use Rattle.decision.proofs.OwnerLaws as laws
 use Rattle.decision.proofs.owner.of_requester.Statement.{statement}

@@ -1,3 +1,4 @@
+-- `decision::owner::owner_of` meets its contract. Assumes nothing.
 use Rattle.decision.proofs.OwnerLaws as laws
 use borrow.Author.Needs.{needs}
 use Rattle.decision.proofs.owner.owner_of.Statement.{statement}

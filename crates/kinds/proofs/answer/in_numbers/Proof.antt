@@ -1,3 +1,4 @@
+-- `kinds::answer::in_numbers` meets its contract. Assumes nothing.
 use borrow.Author.Needs.{needs}
 use Rattle.kinds.proofs.Laws as laws
 use Rattle.kinds.proofs.answer.in_numbers.Statement.{statement}

@@ -1,3 +1,4 @@
+-- `kinds::number::byte_address` meets its contract. Assumes nothing.
 use borrow.Author.Needs.{needs}
 use Rattle.kinds.proofs.Laws as laws
 use Rattle.kinds.proofs.number.byte_address.Statement.{statement}

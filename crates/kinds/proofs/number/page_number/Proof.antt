@@ -1,3 +1,4 @@
+-- `kinds::number::page_number` meets its contract. Assumes nothing.
 use borrow.Author.Needs.{needs}
 use Rattle.kinds.proofs.Laws as laws
 use Rattle.kinds.proofs.number.page_number.Statement.{statement}

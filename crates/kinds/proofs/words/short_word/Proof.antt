@@ -1,3 +1,4 @@
+-- `kinds::words::short_word` meets its contract. Assumes nothing.
 use borrow.Author.Needs.{needs}
 use native.Mathlib.Omega.{arith}
 use Rattle.kinds.proofs.Laws as laws

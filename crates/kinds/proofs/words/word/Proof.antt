@@ -1,3 +1,4 @@
+-- `kinds::words::word` meets its contract. Assumes nothing.
 use borrow.Author.Needs.{needs}
 use Rattle.kinds.proofs.Laws as laws
 use Rattle.kinds.proofs.words.word.Statement.{statement}

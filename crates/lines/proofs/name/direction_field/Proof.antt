@@ -1,3 +1,4 @@
+-- `lines::name::direction_field` meets its contract. Assumes nothing.
 use Rattle.lines.proofs.NameLaws as laws
 use borrow.Author.Needs.{needs}
 use Rattle.lines.proofs.name.direction_field.Statement.{statement}

@@ -1,3 +1,4 @@
+-- `lines::name::last_part` meets its contract. Assumes nothing.
 use Rattle.lines.proofs.NameLaws as laws
 use borrow.Author.Needs.{needs}
 use Rattle.lines.proofs.name.last_part.Statement.{statement}

@@ -1,3 +1,4 @@
+-- `lines::name::later_table` meets its contract. Assumes nothing.
 use Rattle.fields.specs.Field.{is}
 use Rattle.lines.specs.Word.{find}
 use Rattle.lines.proofs.NameLaws as laws

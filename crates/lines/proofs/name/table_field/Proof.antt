@@ -1,3 +1,4 @@
+-- `lines::name::table_field` meets its contract. Assumes nothing.
 use Rattle.lines.proofs.NameLaws as laws
 use borrow.Author.Needs.{needs}
 use Rattle.lines.proofs.name.table_field.Statement.{statement}

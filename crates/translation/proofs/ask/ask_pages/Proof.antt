@@ -1,3 +1,4 @@
+-- `translation::ask::ask_pages` meets its contract. Assumes nothing.
 use Rattle.translation.proofs.AskNeeds as laws
 use borrow.Author.Needs.{needs}
 use Rattle.translation.proofs.ask.ask_pages.Statement.{statement}

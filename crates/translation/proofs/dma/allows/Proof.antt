@@ -1,3 +1,4 @@
+-- `translation::dma::allows` meets its contract. Assumes nothing.
 use Rattle.profile.specs.Walk.{allows}
 use Rattle.translation.proofs.DmaNeeds as laws
 use borrow.Author.Needs.{needs}

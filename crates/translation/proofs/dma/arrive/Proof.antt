@@ -1,3 +1,4 @@
+-- `translation::dma::arrive` meets its contract. Assumes nothing.
 use Rattle.profile.specs.Walk.{arriveAt}
 use Rattle.translation.proofs.DmaNeeds as laws
 use borrow.Author.Needs.{needs}

@@ -1,3 +1,4 @@
+-- `translation::dma::finish` meets its contract. Assumes nothing.
 use borrow.Author.Needs.{needs}
 use Rattle.translation.proofs.DmaNeeds as laws
 use Rattle.translation.proofs.dma.finish.Statement.{statement}

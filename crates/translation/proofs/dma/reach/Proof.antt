@@ -1,3 +1,4 @@
+-- `translation::dma::reach` meets its contract. Assumes nothing.
 use Rattle.translation.proofs.DmaNeeds as laws
 use borrow.Author.Needs.{needs}
 use Rattle.translation.proofs.dma.reach.Statement.{statement}

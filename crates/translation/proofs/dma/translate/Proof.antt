@@ -1,3 +1,4 @@
+-- `translation::dma::translate` meets its contract. Assumes nothing.
 use borrow.Author.Needs.{needs}
 use Rattle.translation.proofs.DmaNeeds as laws
 use Rattle.translation.proofs.dma.translate.Statement.{statement}

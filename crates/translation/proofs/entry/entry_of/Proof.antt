@@ -1,3 +1,4 @@
+-- `translation::entry::entry_of` meets its contract. Assumes nothing.
 use Rattle.translation.proofs.EntryNeeds as laws
 use borrow.Author.Needs.{needs}
 use Rattle.translation.proofs.entry.entry_of.Statement.{statement}

@@ -1,3 +1,4 @@
+-- `translation::entry::low_class` meets its contract. Assumes nothing.
 use native.Mathlib.Omega.{arith}
 use Rattle.translation.proofs.EntryNeeds as laws
 use Rattle.translation.proofs.entry.low_class.Statement.{statement}

@@ -1,3 +1,4 @@
+-- `translation::entry::offset_of` meets its contract. Assumes nothing.
 use Rattle.translation.proofs.EntryNeeds as laws
 use Rattle.translation.proofs.entry.offset_of.Statement.{statement}
 use Rattle.translation.proofs.entry.offset_of.Tie as tie

@@ -1,3 +1,4 @@
+-- `translation::shape::page_size` meets its contract. Assumes nothing.
 use Rattle.profile.specs.Entry.{pageSize}
 use Rattle.translation.proofs.ShapeNeeds as laws
 use Rattle.translation.proofs.shape.page_size.Statement.{statement}

@@ -1,3 +1,4 @@
+-- `translation::shape::shape_of` meets its contract. Assumes nothing.
 use Rattle.translation.proofs.ShapeNeeds as laws
 use borrow.Author.Needs.{needs}
 use Rattle.translation.proofs.shape.shape_of.Statement.{statement}

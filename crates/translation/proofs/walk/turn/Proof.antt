@@ -1,3 +1,4 @@
+-- `translation::walk::turn` meets its contract. Assumes nothing.
 use Rattle.translation.proofs.TurnNeeds as laws
 use borrow.Author.Needs.{needs}
 use Rattle.translation.proofs.walk.turn.Statement.{statement}
