@@ -1,3 +1,2 @@
-pub mod HandleLaws
 pub mod Laws
 pub mod RunLaws

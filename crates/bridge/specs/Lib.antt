@@ -1,5 +1,3 @@
-pub mod Layout
-pub mod LayoutLaws
 pub mod Promise
 pub mod Run
 pub mod RunIsolation

@@ -1,37 +1,19 @@
 -- What the entry points promise.
---     isKeep e                effect e changes nothing
---     Handled f m s q a t     request q was answered a and left t: as the definition says, and isolation holds of that definition
+--     Handled f m s q a t     request q was answered a and left t: as the definition says, and isolation holds of that definition (of `step`)
 --     Replied f m s d a t     the same of what the words of a request name
 --     RanAll f m w s l n t k  of the request words w, n were served on s; t is what they left, and k the answer words that were l: as the definition
 --                             says, and isolation holds of that definition
 -- Assumes nothing.
 use mathlib.Core.Path.{_≡_}
-use mathlib.Core.Bool.{Bool, true, false}
 use mathlib.Core.List.{List}
 use Prim.Native.Nat.{ℕ}
-use Rattle.kinds.specs.Answer.{numbered}
 use Rattle.kinds.specs.declared.answer.Answer.{Answer}
-use Rattle.kinds.specs.declared.outcome.Effect.{Effect}
-use Rattle.kinds.specs.declared.outcome.Effect.the-variants.{Keep, Freeze, Release, Interrupt}
-use Rattle.kinds.specs.declared.request.Request.{Request}
 use Rattle.isolation.specs.Isolation.{Isolation}
-use Rattle.profile.specs.Step.{answered, after}
+use Rattle.layout.specs.declared.Decoded.{Decoded}
 use Rattle.profile.specs.Tables.{Tables, Live}
 use Rattle.bridge.specs.Run.{answeredAs, afterAs, served, ranTo}
 use Rattle.bridge.specs.RunIsolation.{RunIsolation}
-use Rattle.bridge.specs.declared.layout.Decoded.{Decoded}
-
-abbrev pub isKeep : Effect → Bool
-isKeep Keep = true
-isKeep (Freeze r v) = false
-isKeep (Release c) = false
-isKeep (Interrupt i n b) = false
-
-pub record Handled (f : Tables) (m : List ℕ) (s : Live) (q : Request) (a : Answer) (t : Live) : Type 0 where
-  pub answers : a ≡ answered f m s q
-  pub numbers : numbered a ≡ numbered (answered f m s q)
-  pub leaves : t ≡ after f m s q
-  pub isolation : Isolation
+pub use Rattle.step.specs.Promise.{Handled}
 
 -- the same of what the words of a request name
 pub record Replied (f : Tables) (m : List ℕ) (s : Live) (d : Decoded) (a : Answer) (t : Live) : Type 0 where

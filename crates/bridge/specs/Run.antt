@@ -19,9 +19,9 @@ use Rattle.kinds.specs.declared.lookup.Owner.the-variants.{Nobody}
 use Rattle.profile.specs.Step.{answered, after}
 use Rattle.profile.specs.Owner.{owner}
 use Rattle.profile.specs.Tables.{Tables, Live, lengths, sized}
-use Rattle.bridge.specs.Layout.{requestWords, answerWords, decodedAt, written}
-use Rattle.bridge.specs.declared.layout.Decoded.{Decoded}
-use Rattle.bridge.specs.declared.layout.Decoded.the-variants.{Named, Unnamed}
+use Rattle.layout.specs.Layout.{requestWords, answerWords, decodedAt, written}
+use Rattle.layout.specs.declared.Decoded.{Decoded}
+use Rattle.layout.specs.declared.Decoded.the-variants.{Named, Unnamed}
 
 unfoldable pub answeredAs : Tables → List ℕ → Live → Decoded → Answer
 answeredAs f m s (Named q) = answered f m s q

@@ -21,11 +21,11 @@ use Rattle.isolation.specs.Unwind.{Machine, Laws, mine, seen, chosen, mine-chos
 use Rattle.isolation.specs.View.{Bridge, Written, View, agreed, written}
 use Rattle.profile.specs.Agree.{owned, Closed, Same}
 use Rattle.profile.specs.Tables.{Tables, Live}
-use Rattle.bridge.specs.Layout.{requestWords, answerWords, decodedAt, numberList, wordsAt}
+use Rattle.layout.specs.Layout.{requestWords, answerWords, decodedAt, numberList, wordsAt}
 use Rattle.bridge.specs.Run.{answeredAs, afterAs, ownerAs, served, ranTo}
 use Rattle.bridge.specs.RunLaws.{requestsFrom, ranTo-live, ranTo-words}
-use Rattle.bridge.specs.declared.layout.Decoded.{Decoded}
-use Rattle.bridge.specs.declared.layout.Decoded.the-variants.{Named, Unnamed}
+use Rattle.layout.specs.declared.Decoded.{Decoded}
+use Rattle.layout.specs.declared.Decoded.the-variants.{Named, Unnamed}
 
 abbrev pub machineAs : (PeNumber → Bool) → Tables → List ℕ → Machine Live Decoded Answer
 machineAs G f m = record { next = afterAs f m; answer = answeredAs f m; own = λ s d. owned G (ownerAs f s d) }

@@ -15,10 +15,10 @@ use Rattle.kinds.specs.Answer.{numbered}
 use Rattle.kinds.specs.Tests.{by-cases}
 use Rattle.isolation.specs.Unwind.{end}
 use Rattle.profile.specs.Tables.{Tables, Live}
-use Rattle.bridge.specs.Layout.{answerWords, decodedAt, numberList, wordsAt}
-use Rattle.bridge.specs.LayoutLaws.{length-written, words-written, words-kept}
+use Rattle.layout.specs.Layout.{answerWords, decodedAt, numberList, wordsAt}
+use Rattle.layout.specs.LayoutLaws.{length-written, words-written, words-kept}
 use Rattle.bridge.specs.Run.{answeredAs, afterAs, ranTo}
-use Rattle.bridge.specs.declared.layout.Decoded.{Decoded}
+use Rattle.layout.specs.declared.Decoded.{Decoded}
 
 abbrev pub requestsFrom : List ℕ → (k n : ℕ) → List Decoded
 requestsFrom w k zero = []

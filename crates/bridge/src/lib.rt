@@ -2,5 +2,4 @@
 pub mod decide;
 pub mod export;
 pub mod handle;
-pub mod layout;
 pub mod run;

@@ -1,20 +1,22 @@
 // A list of requests as words, and their answers as words. Each request gets the tables as the last one left them.
 use crate::handle;
-use crate::layout;
-use crate::layout::Decoded;
+use kinds::answer;
 use kinds::answer::Answer;
 use kinds::answer::Reason;
 use kinds::record::Lengths;
 use kinds::record::Sizes;
 use kinds::words;
+use layout;
+use layout::Decoded;
 use sizes;
 ghost use mathlib.Core.Path.{_≡_};
 ghost use Prim.Native.Nat.{_+_, _*_, _/_, _≤_, min};
 ghost use lib.ListN.{length};
-ghost use Rattle.bridge.specs.Layout.{decodedAt, requestWords, answerWords};
+ghost use Rattle.kinds.specs.Answer.{numbered};
+ghost use Rattle.layout.specs.Layout.{decodedAt, requestWords, answerWords, stored};
 ghost use Rattle.bridge.specs.Promise.{Replied, RanAll};
 ghost use Rattle.bridge.specs.Run.{answeredAs, ran, ranOne};
-ghost use Rattle.bridge.specs.declared.layout.Decoded.the-variants.{Unnamed};
+ghost use Rattle.layout.specs.declared.Decoded.the-variants.{Unnamed};
 ghost use Rattle.decision.specs.Tables.{tables, live};
 
 // Request `k` of the list, by its words.
@@ -115,6 +117,22 @@ fn reply(
     }
 }
 
+// The words of an answer, from place `at`.
+fn write_answer(answers: &mut [u64], at: usize, answer: Answer)
+    requires { ⌜ at + 8 ≤ length (now answers) ⌝ }
+    ensures { λ r. ⌜ now (answers .exit) ≡ stored (now (answers .entry)) at (numbered answer) ⌝ }
+{
+    let x = answer::in_numbers(answer);
+    answers[at] = x.name;
+    answers[at + 1] = x.reason;
+    answers[at + 2] = x.value;
+    answers[at + 3] = x.words;
+    answers[at + 4] = x.pe;
+    answers[at + 5] = x.server;
+    answers[at + 6] = x.priority;
+    answers[at + 7] = 0;
+}
+
 // Request `k`, served: its effect is done and its answer written.
 fn serve(
     sizes: Sizes,
@@ -147,7 +165,7 @@ fn serve(
         state,
         decoded,
     );
-    layout::write_answer(answers, at, answer);
+    write_answer(answers, at, answer);
 }
 
 // How many whole requests and answers two lists of words of these lengths both hold.
