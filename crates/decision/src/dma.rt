@@ -1,6 +1,7 @@
 // A DMA: its form, and what it comes to by its requester, the stop bits of its PE and the class of its address.
 use crate::owner;
 use endpoints;
+use entries::entry;
 use interrupts;
 use kinds::answer::Reason;
 use kinds::lookup::Owner;
@@ -12,7 +13,6 @@ use kinds::record::Sizes;
 use kinds::request::AddressClass;
 use kinds::request::Direction;
 use translation::dma;
-use translation::entry;
 ghost use mathlib.Core.Path.{_≡_};
 ghost use mathlib.Core.List.{[]};
 ghost use Prim.Native.Nat.{_≤_};

@@ -19,11 +19,13 @@ use Rattle.kinds.specs.declared.record.TranslationEntry.{TranslationEntry}
 use Rattle.kinds.specs.declared.request.Direction.{Direction}
 use Rattle.profile.specs.Entry.{offset}
 use Rattle.profile.specs.Walk.{walk, allows, arriveAt, translated}
-use Rattle.translation.specs.Ask.{asked, finished}
-use Rattle.translation.specs.AskLaws.{translated-is, walk-shaped}
-use Rattle.translation.specs.Turn.{counted, Shaped}
-use Rattle.translation.specs.declared.ask.Asked.{Asked}
-use Rattle.translation.specs.declared.ask.Asked.the-variants.{Walk, Bypass}
+use Rattle.entries.specs.Ask.{asked, Shaped}
+use Rattle.entries.specs.AskLaws.{walk-shaped}
+use Rattle.translation.specs.Finish.{finished}
+use Rattle.translation.specs.FinishLaws.{translated-is}
+use Rattle.translation.specs.Turn.{counted}
+use Rattle.entries.specs.declared.ask.Asked.{Asked}
+use Rattle.entries.specs.declared.ask.Asked.the-variants.{Walk, Bypass}
 use Rattle.translation.specs.declared.walk.Walked.{Walked}
 
 -- `allows`

@@ -1,6 +1,3 @@
-mod EntryNeeds
-mod ShapeNeeds
-mod AskNeeds
 mod DmaNeeds
 mod TurnNeeds
 mod WalkNeeds

@@ -5,14 +5,12 @@ use Prim.Native.Nat.{ℕ, zero, suc, _+_, _-_, _*_, _/_, _%_, _^_, _≤_, _<_}
 use native.Mathlib.Omega.{arith}
 use mir.Syntax.{w64}
 use mir.Val.{Fits}
-use lib.Bits.{bitAnd, and-mask}
-use lib.Dec.{eqb}
+use lib.Bits.{bitAnd}
 use lib.ListN.{length}
 use Rattle.kinds.specs.Words.{at}
 use mathlib.Core.List.{List}
-use lib.Pow.{pow-pos}
 use borrow.Author.Tests.{lt-ltb, le-ltb, ne-eqb}
-use Rattle.kinds.specs.Powers.{eight-shl, one-shl-pos, masked, mod-lt-pow, cleared}
+use Rattle.kinds.specs.Powers.{one-shl-pos, masked, mod-lt-pow, cleared}
 use Rattle.kinds.specs.declared.lookup.Found.the-variants.{Frame, Forbidden, Outside}
 use Rattle.kinds.specs.declared.number.ByteAddress.{ByteAddress}
 use Rattle.kinds.specs.declared.number.PageNumber.{PageNumber}
@@ -23,13 +21,6 @@ use Rattle.translation.specs.declared.walk.Next.{Next}
 use Rattle.translation.specs.declared.walk.Next.the-variants.{Table, End}
 
 module _ {n : ℕ} (few : n ≤ 39) where
-  pub table-bytes : 1 ≤ 8 * 2 ^ n % 2 ^ 64
-  table-bytes = rw (eight-shl n (omega arith)) (pow-pos (3 + n))
-
-  pub multiple : (b : ByteAddress) → eqb (bitAnd (b .0) (8 * 2 ^ n % 2 ^ 64 - 1)) 0 ≡ aligned n b
-  unfolding aligned
-  multiple b = rw (eight-shl n (omega arith), and-mask (b .0) (3 + n))
-
   pub table-words : 1 ≤ 1 * 2 ^ n % 2 ^ 64
   table-words = one-shl-pos n (omega arith)
 

@@ -1,4 +1,4 @@
-pub mod Ask
-pub mod AskLaws
+pub mod Finish
+pub mod FinishLaws
 pub mod Turn
 pub mod TurnLaws

@@ -3,19 +3,16 @@
 --     stepped m k n b q   what the level with k levels below comes to, its table being at b
 --     counted w           a walk with the number of words that it read
 --     taken x r           the walk that level x starts, r being that of the level below
---     Shaped e            what the walk asks of an entry: its table code, its levels and the bits of its indexes are small
 -- Assumes nothing.
 use mathlib.Core.Bool.{cond}
 use mathlib.Core.List.{List}
-use Prim.Native.Nat.{ℕ, zero, suc, _*_, _≤_}
+use Prim.Native.Nat.{ℕ, zero, suc}
 use lib.Dec.{ltb}
 use lib.ListN.{length}
 use Rattle.kinds.specs.Words.{at}
 use Rattle.kinds.specs.declared.lookup.Found.the-variants.{Frame, Forbidden, Outside}
 use Rattle.kinds.specs.declared.number.ByteAddress.{ByteAddress}
 use Rattle.kinds.specs.declared.number.PageNumber.{PageNumber}
-use Rattle.kinds.specs.declared.record.TranslationEntry.{TranslationEntry}
-use Rattle.profile.specs.Entry.{indexBits}
 use Rattle.profile.specs.Walk.{place, nextBase, leads}
 use Rattle.profile.specs.Walk as definition
 use Rattle.translation.specs.declared.walk.Next.{Next}
@@ -36,8 +33,3 @@ counted w = record { found = w .found; words = length (w .reads) }
 abbrev pub taken : Next → Walked → Walked
 taken (Table b) r = record { found = r .found; words = suc (r .words) }
 taken (End f n) r = record { found = f; words = n }
-
-pub record Shaped (e : TranslationEntry) : Type 0 where
-  pub table : e .table ≤ 31
-  pub levels : e .levels ≤ 5
-  pub indexes : indexBits e * e .levels ≤ 59

@@ -1,6 +1,3 @@
-// The translation of a DMA: the class of its address, the entry that the address picks, and what the DMA comes to by the entry.
-mod ask;
+// The translation of a DMA: the walk of a page table, and what the DMA comes to by its entry.
 pub mod dma;
-pub mod entry;
-mod shape;
 mod walk;

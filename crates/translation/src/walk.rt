@@ -1,16 +1,15 @@
 // The walk of a page table.
 ghost use mathlib.Core.Path.{_≡_};
 ghost use Prim.Native.Nat.{_*_, _<_, _≤_};
-ghost use Rattle.profile.specs.Entry.{aligned};
 ghost use Rattle.profile.specs.Walk.{place, nextBase, walk};
-ghost use Rattle.translation.specs.Turn.{next, stepped, counted, Shaped};
+ghost use Rattle.entries.specs.Ask.{Shaped};
+ghost use Rattle.translation.specs.Turn.{next, stepped, counted};
+use entries::shape::CODE_BITS;
+use entries::shape::aligned;
 use kinds::lookup::Found;
 use kinds::number::ByteAddress;
 use kinds::number::PageNumber;
 use kinds::record::TranslationEntry;
-
-// A table of code c has 2^(c + 8) words.
-pub(crate) const CODE_BITS: u64 = 8;
 
 // What a walk found, and the count of words that it read.
 pub(crate) struct Walked {
@@ -22,14 +21,6 @@ pub(crate) struct Walked {
 pub(crate) enum Next {
     Table(ByteAddress),
     End { found: Found, words: u64 },
-}
-
-// Whether a base is a multiple of the bytes of a table of 2^bits words.
-pub(crate) fn aligned(bits: u64, base: ByteAddress) -> bool
-    requires { ⌜ bits ≤ 39 ⌝ }
-    ensures { λ r. ⌜ r ≡ aligned bits base ⌝ }
-{
-    base.0 & ((8u64 << bits) - 1) == 0
 }
 
 // The number of the memory word that a page has in the table at `base`, with `below` levels below it.

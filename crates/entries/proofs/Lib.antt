@@ -1,0 +1,3 @@
+mod EntryNeeds
+mod ShapeNeeds
+mod AskNeeds
