@@ -1,4 +1,4 @@
--- What `access_of`, `is_formed`, `settle` and `decide` are proved from. Assumes nothing.
+-- What `access_of`, `settle` and `decide` are proved from. Assumes nothing.
 use mathlib.Core.Path.{_≡_, refl, sym, ap, _∙_}
 use mathlib.Core.Bool.{Bool, true, false}
 use mathlib.Core.List.{List, []}
@@ -30,7 +30,8 @@ use Rattle.profile.specs.Tables.{Tables, Live, lengths, sized}
 use Rattle.profile.specs.Windows.{route, onesOf}
 use Rattle.windows.specs.AccessLaws.{ones-formed}
 use Rattle.sizes.specs.PartsLaws.{sized-pes}
-use Rattle.decision.specs.ByValue.{accessedBy, dma-is}
+use Rattle.dma.specs.ByValue.{dma-is}
+use Rattle.decision.specs.ByValue.{accessedBy}
 use Rattle.decision.specs.Promise.{outcomeOf, settledOn}
 use Rattle.decision.specs.PromiseLaws.{hit-is}
 use Rattle.decision.specs.Tables.{tables, live}
@@ -46,11 +47,6 @@ module _ (z : Sizes) (t : List ℕ) (h : Hit) (dead : Answer) {o : Owner} (i : o
   pub access-nobody : {r : Reason} {x : Outcome} → o ≡ Nobody r → x ≡ refused r → x ≡ accessedBy (ofHit (tables z [] [] [] [] []) h) h t dead
   unfolding accessedBy
   access-nobody k g = rw (← i, k) g
-
--- ---- the form of a request
-
-pub formed-case : (q : Request) {x : Request} {b : Bool} → q ≡ x → b ≡ formed x → b ≡ formed q
-formed-case q e h = h ∙ sym (ap formed e)
 
 -- ---- a request, by its kind
 

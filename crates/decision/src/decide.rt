@@ -1,16 +1,19 @@
 // What a request comes to, on any tables: its answer and its effect. Nothing is written.
 use crate::access;
-use crate::dma;
 use crate::firmware;
 use crate::owner;
+use dma;
+use forms;
 use kinds::answer::Answer;
 use kinds::answer::Reason;
 use kinds::lookup::Owner;
+use kinds::number::ByteAddress;
 use kinds::outcome;
 use kinds::outcome::Effect;
 use kinds::outcome::Outcome;
 use kinds::record::Lengths;
 use kinds::record::Sizes;
+use kinds::request::Direction;
 use kinds::request::Request;
 use sizes;
 use windows;
@@ -18,49 +21,50 @@ ghost use mathlib.Core.Path.{_≡_};
 ghost use mathlib.Core.Bool.{true};
 ghost use mathlib.Core.List.{[]};
 ghost use Prim.Native.Nat.{_≤_};
-ghost use Rattle.kinds.specs.declared.request.Request.the-variants.{Error};
+ghost use Rattle.kinds.specs.declared.request.Request.the-variants.{Dma, Error};
 ghost use Rattle.profile.specs.Step.{formed, decided};
 ghost use Rattle.decision.specs.Promise.{settledOn};
 ghost use Rattle.decision.specs.Tables.{tables, live};
 
-// Whether a request is well formed, as far as it says itself.
-fn is_formed(request: Request) -> bool
-    ensures { λ r. ⌜ r ≡ formed request ⌝ }
+// A DMA, by its requester.
+fn by_requester(
+    sizes: Sizes,
+    requesters: &[u16],
+    entries: &[u64],
+    memory: &[u64],
+    interrupts: &[u64],
+    state: &[u64],
+    requester: u64,
+    direction: Direction,
+    address: ByteAddress,
+    length: u64,
+    data: u32,
+) -> Outcome
+    requires { ⌜ sizes .pes ≤ 256 ⌝ }
+    ensures { λ r. ⌜ r ≡ settledOn (tables sizes (now (requesters .entry)) (now (entries .entry)) [] [] []) (now (memory .entry)) (live (now (state .entry)) (now (interrupts .entry))) (Dma requester direction address length «data») ⌝ }
 {
-    match request {
-        Request::Dma {
-            requester: _,
-            direction: _,
-            address,
-            length,
-            data: _,
-        } => {
-            return dma::dma_formed(address, length);
+    match owner::of_requester(sizes, requesters, requester) {
+        Owner::Of(pe) => {
+            return dma::dma_of(
+                sizes,
+                entries,
+                memory,
+                interrupts,
+                state,
+                pe,
+                direction,
+                address,
+                length,
+                data,
+            );
         }
-        Request::Load { address, width } => {
-            return windows::access_formed(address, width);
-        }
-        Request::Store { address, width } => {
-            return windows::access_formed(address, width);
-        }
-        Request::Error { requester: _ } => {
-            return true;
-        }
-        Request::Clear { pe: _, part: _ } => {
-            return true;
-        }
-        Request::End { interrupt: _ } => {
-            return true;
-        }
-        Request::Priority {
-            interrupt: _,
-            priority,
-        } => {
-            return priority <= 255;
+        Owner::Nobody(reason) => {
+            return outcome::refused(reason);
         }
     }
 }
 
+// An error message, by its requester.
 fn error(sizes: Sizes, requesters: &[u16], requester: u64) -> Outcome
     requires { ⌜ sizes .pes ≤ 256 ⌝ }
     ensures { λ r. ⌜ r ≡ settledOn (tables sizes (now (requesters .entry)) [] [] [] []) [] (live [] []) (Error requester) ⌝ }
@@ -102,7 +106,7 @@ fn settle(
             length,
             data,
         } => {
-            return dma::by_requester(
+            return by_requester(
                 sizes,
                 requesters,
                 entries,
@@ -169,7 +173,7 @@ pub fn decide(
         state: state.len() as u64,
     };
     if sizes::sized(sizes, lengths) {
-        if is_formed(request) {
+        if forms::is_formed(request) {
             return settle(
                 sizes,
                 requesters,

@@ -1,10 +1,8 @@
-// A DMA: its form, and what it comes to by its requester, the stop bits of its PE and the class of its address.
-use crate::owner;
+// A DMA of a PE: what it comes to by the stop bits of the PE and the class of its address.
 use endpoints;
 use entries::entry;
 use interrupts;
 use kinds::answer::Reason;
-use kinds::lookup::Owner;
 use kinds::number::ByteAddress;
 use kinds::number::PeNumber;
 use kinds::outcome;
@@ -15,29 +13,12 @@ use kinds::request::Direction;
 use translation::dma;
 ghost use mathlib.Core.Path.{_≡_};
 ghost use mathlib.Core.List.{[]};
-ghost use Prim.Native.Nat.{_≤_};
 ghost use Rattle.kinds.specs.Words.{at};
-ghost use Rattle.kinds.specs.declared.request.Request.the-variants.{Dma};
 ghost use Rattle.profile.specs.Entry.{classOf};
 ghost use Rattle.profile.specs.Freeze.{stopWord};
 ghost use Rattle.profile.specs.Msi.{msi};
-ghost use Rattle.profile.specs.Step.{dmaFormed};
-ghost use Rattle.decision.specs.ByValue.{classed, dmaOf};
-ghost use Rattle.decision.specs.Promise.{settledOn};
-ghost use Rattle.decision.specs.Tables.{tables, live};
-
-// 1 to 4,096 bytes, all in one block of 4,096.
-pub(crate) fn dma_formed(address: ByteAddress, length: u64) -> bool
-    ensures { λ r. ⌜ r ≡ dmaFormed address length ⌝ }
-{
-    if length < 1 {
-        return false;
-    }
-    if 4096 < length {
-        return false;
-    }
-    address.0 % 4096 + length <= 4096
-}
+ghost use Rattle.dma.specs.ByValue.{classed, dmaOf};
+ghost use Rattle.dma.specs.Tables.{tables, live};
 
 // An MSI of a PE, with its number.
 fn deliver_msi(
@@ -96,7 +77,7 @@ fn dma_by_class(
 }
 
 // A DMA of a PE.
-fn dma_of(
+pub fn dma_of(
     sizes: Sizes,
     entries: &[u64],
     memory: &[u64],
@@ -125,41 +106,4 @@ fn dma_of(
         length,
         data,
     )
-}
-
-pub(crate) fn by_requester(
-    sizes: Sizes,
-    requesters: &[u16],
-    entries: &[u64],
-    memory: &[u64],
-    interrupts: &[u64],
-    state: &[u64],
-    requester: u64,
-    direction: Direction,
-    address: ByteAddress,
-    length: u64,
-    data: u32,
-) -> Outcome
-    requires { ⌜ sizes .pes ≤ 256 ⌝ }
-    ensures { λ r. ⌜ r ≡ settledOn (tables sizes (now (requesters .entry)) (now (entries .entry)) [] [] []) (now (memory .entry)) (live (now (state .entry)) (now (interrupts .entry))) (Dma requester direction address length «data») ⌝ }
-{
-    match owner::of_requester(sizes, requesters, requester) {
-        Owner::Of(pe) => {
-            return dma_of(
-                sizes,
-                entries,
-                memory,
-                interrupts,
-                state,
-                pe,
-                direction,
-                address,
-                length,
-                data,
-            );
-        }
-        Owner::Nobody(reason) => {
-            return outcome::refused(reason);
-        }
-    }
 }

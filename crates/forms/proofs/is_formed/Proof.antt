@@ -1,9 +1,9 @@
--- `decision::decide::is_formed` meets its contract. Assumes nothing.
+-- `forms::is_formed` meets its contract. Assumes nothing.
 use Rattle.profile.specs.Step.{formed}
-use Rattle.decision.proofs.SettleLaws as laws
+use Rattle.forms.proofs.Laws as laws
 use borrow.Author.Needs.{needs}
-use Rattle.decision.proofs.decide.is_formed.Statement.{statement}
-use Rattle.decision.proofs.decide.is_formed.Tie as tie
+use Rattle.forms.proofs.is_formed.Statement.{statement}
+use Rattle.forms.proofs.is_formed.Tie as tie
 
 enum-known-request : tie.Need-enum-known-request
 enum-known-request c = search needs

@@ -1,8 +1,8 @@
--- `decision::dma::deliver_msi` meets its contract. Assumes nothing.
-use Rattle.decision.proofs.DecideLaws as laws
+-- `dma::deliver_msi` meets its contract. Assumes nothing.
+use Rattle.dma.proofs.DmaLaws as laws
 use borrow.Author.Needs.{needs}
-use Rattle.decision.proofs.dma.deliver_msi.Statement.{statement}
-use Rattle.decision.proofs.dma.deliver_msi.Tie as tie
+use Rattle.dma.proofs.deliver_msi.Statement.{statement}
+use Rattle.dma.proofs.deliver_msi.Tie as tie
 
 interrupt-at-requires : tie.Need-interrupt-at-requires
 interrupt-at-requires c κs = search needs

@@ -1,9 +1,9 @@
--- `decision::dma::by_requester` meets its contract. Assumes nothing.
+-- `decision::decide::by_requester` meets its contract. Assumes nothing.
 use Rattle.profile.specs.Owner.{owner}
 use Rattle.decision.proofs.DecideLaws as laws
 use borrow.Author.Needs.{needs}
-use Rattle.decision.proofs.dma.by_requester.Statement.{statement}
-use Rattle.decision.proofs.dma.by_requester.Tie as tie
+use Rattle.decision.proofs.decide.by_requester.Statement.{statement}
+use Rattle.decision.proofs.decide.by_requester.Tie as tie
 
 of-requester-requires : tie.Need-of-requester-requires
 of-requester-requires c κs = search needs

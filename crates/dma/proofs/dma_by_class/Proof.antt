@@ -1,8 +1,8 @@
--- `decision::dma::dma_by_class` meets its contract. Assumes nothing.
-use Rattle.decision.proofs.DecideLaws as laws
+-- `dma::dma_by_class` meets its contract. Assumes nothing.
+use Rattle.dma.proofs.DmaLaws as laws
 use borrow.Author.Needs.{needs}
-use Rattle.decision.proofs.dma.dma_by_class.Statement.{statement}
-use Rattle.decision.proofs.dma.dma_by_class.Tie as tie
+use Rattle.dma.proofs.dma_by_class.Statement.{statement}
+use Rattle.dma.proofs.dma_by_class.Tie as tie
 
 class-of-requires : tie.Need-class-of-requires
 class-of-requires c κs = search needs

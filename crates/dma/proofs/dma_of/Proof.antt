@@ -1,8 +1,8 @@
--- `decision::dma::dma_of` meets its contract. Assumes nothing.
-use Rattle.decision.proofs.DecideLaws as laws
+-- `dma::dma_of` meets its contract. Assumes nothing.
+use Rattle.dma.proofs.DmaLaws as laws
 use borrow.Author.Needs.{needs}
-use Rattle.decision.proofs.dma.dma_of.Statement.{statement}
-use Rattle.decision.proofs.dma.dma_of.Tie as tie
+use Rattle.dma.proofs.dma_of.Statement.{statement}
+use Rattle.dma.proofs.dma_of.Tie as tie
 
 stop-word-requires : tie.Need-stop-word-requires
 stop-word-requires c κs = search needs

@@ -1,9 +1,9 @@
--- `decision::dma::dma_formed` meets its contract. Assumes nothing.
+-- `forms::dma_formed` meets its contract. Assumes nothing.
 use Rattle.profile.specs.Step.{dmaFormed}
 use Rattle.kinds.specs.Tests.{tests}
 use borrow.Author.Needs.{needs}
-use Rattle.decision.proofs.dma.dma_formed.Statement.{statement}
-use Rattle.decision.proofs.dma.dma_formed.Tie as tie
+use Rattle.forms.proofs.dma_formed.Statement.{statement}
+use Rattle.forms.proofs.dma_formed.Tie as tie
 
 returns : tie.Need-returns
 unfolding dmaFormed
