@@ -2,6 +2,7 @@
 use decision::decide;
 use decision::owner;
 use endpoints;
+use freeze;
 use interrupts;
 use kinds::answer::Answer;
 use kinds::lookup::Owner;
@@ -24,8 +25,8 @@ fn act_at(peers: &[u64], interrupts: &mut [u64], state: &mut [u64], pe: PeNumber
             return;
         }
         Effect::Freeze { reason, value } => {
-            let vector = endpoints::peer_vector(peers, pe);
-            endpoints::freeze(state, vector, pe, reason, value);
+            let vector = freeze::peer_vector(peers, pe);
+            freeze::freeze(state, vector, pe, reason, value);
             return;
         }
         Effect::Release { part } => {

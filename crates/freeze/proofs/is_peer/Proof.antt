@@ -1,8 +1,8 @@
--- `endpoints::is_peer` meets its contract. Assumes nothing.
-use Rattle.endpoints.proofs.Laws as laws
+-- `freeze::is_peer` meets its contract. Assumes nothing.
+use Rattle.freeze.proofs.Laws as laws
 use borrow.Author.Needs.{needs}
-use Rattle.endpoints.proofs.is_peer.Statement.{statement}
-use Rattle.endpoints.proofs.is_peer.Tie as tie
+use Rattle.freeze.proofs.is_peer.Statement.{statement}
+use Rattle.freeze.proofs.is_peer.Tie as tie
 
 word-requires : tie.Need-word-requires
 word-requires c κs = search needs

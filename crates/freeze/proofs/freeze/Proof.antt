@@ -1,6 +1,6 @@
--- `endpoints::freeze` meets its contract. The invariant: the state is as k turns leave it. The measure is what is left of the state.
+-- `freeze::freeze` meets its contract. The invariant: the state is as k turns leave it. The measure is what is left of the state.
 -- Assumes nothing.
-use Rattle.endpoints.proofs.Laws as laws
+use Rattle.freeze.proofs.Laws as laws
 use borrow.Author.Needs.{needs}
 use mathlib.Core.Path.{_≡_, refl}
 use Prim.Native.Nat.{_+_, _-_, _*_, _≤_}
@@ -8,9 +8,9 @@ use native.Mathlib.Omega.{arith}
 use lib.ListN.{length}
 use Rattle.kinds.specs.Turns.{turns}
 use Rattle.profile.specs.Tables.{stateWords}
-use Rattle.endpoints.specs.Turn.{freezeTurn}
-use Rattle.endpoints.proofs.freeze.Statement.{statement}
-use Rattle.endpoints.proofs.freeze.Tie as tie
+use Rattle.freeze.specs.Turn.{freezeTurn}
+use Rattle.freeze.proofs.freeze.Statement.{statement}
+use Rattle.freeze.proofs.freeze.Tie as tie
 
 abbrev Inv-loop : tie.InvT-loop
 Inv-loop state₀ pe value peers number k₀ state k =

@@ -20,7 +20,7 @@ use Rattle.kinds.specs.declared.answer.Reason.the-variants.{FrozenAsPeer}
 use Rattle.kinds.specs.declared.number.PeNumber.{PeNumber}
 use Rattle.profile.specs.Freeze.{marked, frozen, froze}
 use Rattle.profile.specs.Tables.{stateWords}
-use Rattle.endpoints.specs.Turn.{stopped, turned, freezeTurn}
+use Rattle.freeze.specs.Turn.{stopped, turned, freezeTurn}
 
 -- a word of one state or of another
 at-either : (b : Bool) (l m : List ℕ) (i : ℕ) → at (cond b l m) i ≡ cond b (at l i) (at m i)

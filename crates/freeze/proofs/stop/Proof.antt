@@ -1,8 +1,8 @@
--- `endpoints::stop` meets its contract. Assumes nothing.
-use Rattle.endpoints.proofs.Laws as laws
+-- `freeze::stop` meets its contract. Assumes nothing.
+use Rattle.freeze.proofs.Laws as laws
 use borrow.Author.Needs.{needs}
-use Rattle.endpoints.proofs.stop.Statement.{statement}
-use Rattle.endpoints.proofs.stop.Tie as tie
+use Rattle.freeze.proofs.stop.Statement.{statement}
+use Rattle.freeze.proofs.stop.Tie as tie
 
 mul-first : tie.Need-mul-first
 mul-first c = search needs

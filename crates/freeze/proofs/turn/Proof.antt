@@ -1,8 +1,8 @@
--- `endpoints::turn` meets its contract. Assumes nothing.
-use Rattle.endpoints.proofs.Laws as laws
+-- `freeze::turn` meets its contract. Assumes nothing.
+use Rattle.freeze.proofs.Laws as laws
 use borrow.Author.Needs.{needs}
-use Rattle.endpoints.proofs.turn.Statement.{statement}
-use Rattle.endpoints.proofs.turn.Tie as tie
+use Rattle.freeze.proofs.turn.Statement.{statement}
+use Rattle.freeze.proofs.turn.Tie as tie
 
 cast-failing : tie.Need-cast-failing
 cast-failing c = search needs
