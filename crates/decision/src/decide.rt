@@ -1,6 +1,6 @@
 // What a request comes to, on any tables: its answer and its effect. Nothing is written.
 use crate::access;
-use crate::firmware;
+use crate::firmware_requests;
 use crate::owner;
 use dma;
 use forms;
@@ -133,16 +133,16 @@ fn settle(
             return error(sizes, requesters, requester);
         }
         Request::Clear { pe, part } => {
-            return firmware::clear(sizes, pe, part);
+            return firmware_requests::clear(sizes, pe, part);
         }
         Request::End { interrupt } => {
-            return firmware::end(sizes, interrupts, interrupt);
+            return firmware_requests::end(sizes, interrupts, interrupt);
         }
         Request::Priority {
             interrupt,
             priority,
         } => {
-            return firmware::prioritize(sizes, interrupts, interrupt, priority);
+            return firmware_requests::prioritize(sizes, interrupts, interrupt, priority);
         }
     }
 }

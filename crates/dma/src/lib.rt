@@ -10,6 +10,7 @@ use kinds::outcome::Outcome;
 use kinds::record::Sizes;
 use kinds::request::AddressClass;
 use kinds::request::Direction;
+use msi;
 use translation::dma;
 ghost use mathlib.Core.Path.{_≡_};
 ghost use mathlib.Core.List.{[]};
@@ -34,7 +35,7 @@ fn deliver_msi(
     if good {
         if number < sizes.interrupts {
             let record = interrupts::interrupt_at(interrupts, number);
-            return interrupts::deliver(pe, address, number, record);
+            return msi::deliver(pe, address, number, record);
         }
         return outcome::failed(Reason::MsiRefused, address, 0);
     }
@@ -61,13 +62,13 @@ fn dma_by_class(
             return dma::translate(memory, entry, pe, direction, address);
         }
         AddressClass::Msi32 => {
-            let number = interrupts::msi_number32(address, data);
-            let good = interrupts::msi_formed(direction, address, length);
+            let number = msi::msi_number32(address, data);
+            let good = msi::msi_formed(direction, address, length);
             return deliver_msi(sizes, interrupts, pe, address, number, good);
         }
         AddressClass::Msi64 => {
-            let number = interrupts::msi_number64(address, data);
-            let good = interrupts::msi_formed(direction, address, length);
+            let number = msi::msi_number64(address, data);
+            let good = msi::msi_formed(direction, address, length);
             return deliver_msi(sizes, interrupts, pe, address, number, good);
         }
         AddressClass::Unserved => {
