@@ -28,7 +28,7 @@ use Rattle.profile.specs.Step.{formed, accessed, ask, finish, settled, decidedB
 use Rattle.profile.specs.Owner.{ofHit, owner}
 use Rattle.profile.specs.Tables.{Tables, Live, lengths, sized}
 use Rattle.profile.specs.Windows.{route, onesOf}
-use Rattle.windows.specs.AccessLaws.{ones-formed}
+use Rattle.mmio.specs.AccessLaws.{ones-formed}
 use Rattle.sizes.specs.PartsLaws.{sized-pes}
 use Rattle.dma.specs.ByValue.{dma-is}
 use Rattle.decision.specs.ByValue.{accessedBy}

@@ -8,7 +8,7 @@ use kinds::outcome;
 use kinds::outcome::Effect;
 use kinds::outcome::Outcome;
 use kinds::record::Sizes;
-use windows;
+use mmio;
 ghost use mathlib.Core.Path.{_≡_};
 ghost use mathlib.Core.List.{[]};
 ghost use Prim.Native.Nat.{_≤_};
@@ -25,7 +25,7 @@ pub(crate) fn access_of(sizes: Sizes, state: &[u64], hit: Hit, dead: Answer) -> 
         Owner::Of(pe) => {
             let stop = endpoints::stop_word(state, pe);
             return Outcome {
-                answer: windows::access(hit, pe, stop, dead),
+                answer: mmio::access(hit, pe, stop, dead),
                 effect: Effect::Keep,
             };
         }

@@ -15,6 +15,7 @@ use kinds::record::Lengths;
 use kinds::record::Sizes;
 use kinds::request::Direction;
 use kinds::request::Request;
+use mmio;
 use sizes;
 use windows;
 ghost use mathlib.Core.Path.{_≡_};
@@ -122,7 +123,7 @@ fn settle(
         }
         Request::Load { address, width } => {
             let hit = windows::route(windows, segments, address);
-            let value = windows::ones(width);
+            let value = mmio::ones(width);
             return access::access_of(sizes, state, hit, Answer::Ones { value });
         }
         Request::Store { address, width: _ } => {

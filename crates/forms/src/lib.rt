@@ -1,9 +1,8 @@
 // Reason 2: the form of a request.
 use kinds::number::ByteAddress;
 use kinds::request::Request;
-use windows;
 ghost use mathlib.Core.Path.{_≡_};
-ghost use Rattle.profile.specs.Step.{dmaFormed, formed};
+ghost use Rattle.profile.specs.Step.{accessFormed, dmaFormed, formed};
 
 // 1 to 4,096 bytes, all in one block of 4,096.
 fn dma_formed(address: ByteAddress, length: u64) -> bool
@@ -16,6 +15,25 @@ fn dma_formed(address: ByteAddress, length: u64) -> bool
         return false;
     }
     address.0 % 4096 + length <= 4096
+}
+
+// Width 1, 2, 4 or 8, and the address a multiple of it.
+fn access_formed(address: ByteAddress, width: u64) -> bool
+    ensures { λ r. ⌜ r ≡ accessFormed address width ⌝ }
+{
+    if width == 1 {
+        return true;
+    }
+    if width == 2 {
+        return address.0 % 2 == 0;
+    }
+    if width == 4 {
+        return address.0 % 4 == 0;
+    }
+    if width == 8 {
+        return address.0 % 8 == 0;
+    }
+    false
 }
 
 // Whether a request is well formed, as far as it says itself.
@@ -33,10 +51,10 @@ pub fn is_formed(request: Request) -> bool
             return dma_formed(address, length);
         }
         Request::Load { address, width } => {
-            return windows::access_formed(address, width);
+            return access_formed(address, width);
         }
         Request::Store { address, width } => {
-            return windows::access_formed(address, width);
+            return access_formed(address, width);
         }
         Request::Error { requester: _ } => {
             return true;

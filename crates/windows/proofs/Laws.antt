@@ -1,102 +1,30 @@
 -- What the functions of `windows` are proved from. `p`, `q`, `r` are what calls gave.
---     m32-size ..         M32 is open or closed, test by test; m64-size ..: so is an M64 window
 --     m32-takes, m32-away     a window that covers the address is asked whether it is open, another is not; m64-takes, m64-away
 --     m32-from ..         what is known of a window that takes an address: m64-from ..
 --     from-hit, from-next     one turn of the search through the M64 windows; from-end: its end
 --     route-m32, route-m64    M32 takes the address, or the M64 windows are asked
---     access-at ..        a load or store by its hit; ones-narrow ..: all ones of a width; formed-at: a width with the address a multiple of it
 -- Assumes nothing.
 use mathlib.Core.Path.{_≡_, refl, sym, ap, _∙_}
-use mathlib.Core.Bool.{Bool, true, false, cond, _&&_, _||_}
+use mathlib.Core.Bool.{Bool, true, false, cond, _&&_}
 use mathlib.Core.List.{List}
-use Prim.Native.Nat.{ℕ, zero, suc, _+_, _-_, _*_, _%_, _^_, _≤_, _<_, min}
-use native.Mathlib.Nat.{mod-one, min-eq-left, min-eq-right}
+use Prim.Native.Nat.{ℕ, zero, suc, _+_, _-_, _*_, _%_, _^_, _≤_, _<_}
 use native.Mathlib.Numerals.{sub-one}
 use native.Mathlib.Omega.{arith}
 use mir.Val.{Fits}
 use mir.Syntax.{w64}
 use lib.Dec.{leb, ltb, eqb}
-use lib.Pow.{pow-mono}
-use borrow.Author.Tests.{leb-true, leb-false, ltb-true, le-leb, lt-leb, eq-eqb, ne-eqb}
-use Rattle.kinds.specs.Powers.{one-shl, one-shl-pos}
-use Rattle.kinds.specs.Tests.{by-cases, and-left, and-right}
+use borrow.Author.Tests.{leb-true, ltb-true}
+use Rattle.kinds.specs.Tests.{and-left, and-right}
 use Rattle.kinds.specs.Words.{at}
-use Rattle.kinds.specs.declared.answer.Answer.{Answer}
-use Rattle.kinds.specs.declared.answer.Answer.the-variants.{Pass}
 use Rattle.kinds.specs.declared.lookup.Hit.{Hit}
 use Rattle.kinds.specs.declared.lookup.Hit.the-variants.{At, Miss}
 use Rattle.kinds.specs.declared.number.ByteAddress.{ByteAddress}
-use Rattle.kinds.specs.declared.number.PeNumber.{PeNumber}
 use Rattle.kinds.specs.declared.record.Window.{Window}
-use Rattle.profile.specs.Freeze.{mmioStopped}
-use Rattle.profile.specs.Step.{accessed, accessFormed}
-use Rattle.profile.specs.Windows.{isPower, covers, segmentOf, m32Open, m64Open, m64Pe, window, m64, m64From, route, onesOf}
-use Rattle.windows.specs.Size.{Power, WindowSize}
+use Rattle.open_windows.proofs.Laws.{m32-power, m64-power}
+use Rattle.open_windows.proofs.Powers.{wider}
+use Rattle.open_windows.specs.Size.{WindowSize}
+use Rattle.profile.specs.Windows.{isPower, covers, segmentOf, m32Open, m64Open, m64Pe, window, m64, m64From, route}
 use Rattle.windows.specs.Takes.{m32Takes, m64Takes}
-use Rattle.windows.proofs.Powers.{power-of, wider}
-
--- a power of the range of M32 or of M64
-m32-power : (n : ℕ) → isPower 20 12 n ≡ true → Power 20 32 n
-m32-power n e = power-of 20 32 n (omega arith) (omega arith) e
-
-m64-power : (n : ℕ) → isPower 28 22 n ≡ true → Power 28 50 n
-m64-power n e = power-of 28 50 n (omega arith) (omega arith) e
-
-m32-most : (n : ℕ) → isPower 20 12 n ≡ true → n ≤ 2 ^ 32
-m32-most n e = let p = m32-power n e in rw (p .is) (pow-mono (p .high))
-
--- the PCI side ends at or below 2 ^ 32
-pci-end : (c n : ℕ) → n ≤ 2 ^ 32 → leb c (2 ^ 32 - n) ≡ leb (c + n) (2 ^ 32)
-pci-end c n h =
-    by-cases (leb (c + n) (2 ^ 32))
-    (λ o. let z = leb-true (c + n) (2 ^ 32) o in rw o (le-leb c (2 ^ 32 - n) (omega arith)))
-    (λ o. let z = leb-false (c + n) (2 ^ 32) o in rw o (lt-leb c (2 ^ 32 - n) (omega arith)))
-
-module _ {p : Bool} (b n c : ℕ) (e : p ≡ isPower 20 12 n) where
-  pub m32-size : p ≡ true → WindowSize n
-  m32-size h = wider 20 50 n (omega arith) (omega arith) (m32-power n (sym e ∙ h))
-
-  pub m32-fits : p ≡ true → n ≤ 2 ^ 32
-  m32-fits h = m32-most n (sym e ∙ h)
-
-  pub m32-no-power : p ≡ false → false ≡ m32Open b n c
-  unfolding m32Open
-  m32-no-power h = rw (← e, h)
-
-  module _ {q : Bool} (h : p ≡ true) (f : q ≡ eqb (b % n) 0) where
-    pub m32-no-base : q ≡ false → false ≡ m32Open b n c
-    unfolding m32Open
-    m32-no-base i = rw (← e, h, ← f, i)
-
-    module _ {r : Bool} (i : q ≡ true) (g : r ≡ eqb (c % n) 0) where
-      pub m32-no-pci : r ≡ false → false ≡ m32Open b n c
-      unfolding m32Open
-      m32-no-pci j = rw (← e, h, ← f, i, ← g, j)
-
-      pub m32-end : r ≡ true → leb c (2 ^ 32 - n) ≡ m32Open b n c
-      unfolding m32Open
-      m32-end j = rw (← e, h, ← f, i, ← g, j) (pci-end c n (m32-fits h))
-
-module _ {p : Bool} (w : Window) (e : p ≡ isPower 28 22 (w .size)) where
-  pub m64-size : p ≡ true → WindowSize (w .size)
-  m64-size h = wider 20 50 (w .size) (omega arith) (omega arith) (m64-power (w .size) (sym e ∙ h))
-
-  pub m64-no-power : p ≡ false → false ≡ m64Open w
-  unfolding m64Open
-  m64-no-power h = rw (← e, h)
-
-  module _ {q : Bool} (h : p ≡ true) (f : q ≡ eqb (w .base % w .size) 0) where
-    pub m64-no-base : q ≡ false → false ≡ m64Open w
-    unfolding m64Open
-    m64-no-base i = rw (← e, h, ← f, i)
-
-    pub m64-whole : q ≡ true → w .mode ≡ 1 → true ≡ m64Open w
-    unfolding m64Open
-    m64-whole i m = rw (← e, h, ← f, i, eq-eqb (w .mode) 1 m)
-
-    pub m64-parted : q ≡ true → (w .mode ≡ 1 → ⊥) → eqb (w .mode) 2 ≡ m64Open w
-    unfolding m64Open
-    m64-parted i m = rw (← e, h, ← f, i, ne-eqb (w .mode) 1 m)
 
 -- what the code asks first stands last in the definition
 and-true : {p r c : Bool} (x : Bool) → p ≡ c → p ≡ true → r ≡ x → r ≡ (x && c)
@@ -215,36 +143,3 @@ module _ {p : Bool} {b n c : ℕ} {r : Hit} (ws ss : List ℕ) (a : ByteAddress)
   pub route-m64 : p ≡ false → r ≡ m64From ws 16 0 a → r ≡ route ws ss a
   unfolding route m32Takes
   route-m64 t o = rw (← f, ← g, ← h, ← e, t) o
-
-module _ {r : Answer} (x : Hit) (q : PeNumber) (w : ℕ) (dead : Answer) where
-  pub access-at : {n : ℕ} {c : ByteAddress} → x ≡ At n c → r ≡ cond (mmioStopped w) dead (Pass c q 0) → r ≡ accessed x q w dead
-  unfolding accessed
-  access-at e h = rw e h
-
-pub access-miss : (x : Hit) (q : PeNumber) (w : ℕ) (dead : Answer) → x ≡ Miss → dead ≡ accessed x q w dead
-unfolding accessed
-access-miss x q w dead e = rw e
-
-module _ (w : ℕ) (h : w < 8) where
-  bits-fit : 8 * w < 64
-  bits-fit = omega arith
-
-  pub ones-fit : 1 ≤ 1 * 2 ^ (8 * w) % 2 ^ 64
-  ones-fit = one-shl-pos (8 * w) bits-fit
-
-  pub ones-narrow : 1 * 2 ^ (8 * w) % 2 ^ 64 - 1 ≡ onesOf (min w 8)
-  unfolding onesOf
-  ones-narrow = let few : w ≤ 8 = omega arith in rw (one-shl (8 * w) bits-fit, min-eq-left few)
-
-pub ones-wide : (w : ℕ) → 8 ≤ w → 2 ^ 64 - 1 ≡ onesOf (min w 8)
-unfolding onesOf
-ones-wide w h = rw (min-eq-right h)
-
-module _ (a : ByteAddress) (w : ℕ) where
-  pub formed-at : (k : ℕ) → w ≡ k → (eqb k 1 || eqb k 2 || eqb k 4 || eqb k 8) ≡ true → eqb (a .0 % k) 0 ≡ accessFormed a w
-  unfolding accessFormed
-  formed-at k e h = rw (e, h)
-
-  pub formed-byte : w ≡ 1 → true ≡ accessFormed a w
-  unfolding accessFormed
-  formed-byte e = rw (e, mod-one (a .0))

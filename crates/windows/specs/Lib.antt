@@ -1,3 +1,1 @@
-pub mod AccessLaws
-pub mod Size
 pub mod Takes

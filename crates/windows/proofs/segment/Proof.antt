@@ -1,5 +1,5 @@
 -- `windows::segment` meets its contract. Assumes nothing.
-use Rattle.windows.proofs.Powers as powers
+use Rattle.open_windows.proofs.Powers as powers
 use borrow.Author.Needs.{needs}
 use Rattle.windows.proofs.segment.Statement.{statement}
 use Rattle.windows.proofs.segment.Tie as tie

@@ -1,8 +1,8 @@
--- `windows::access` meets its contract. Assumes nothing.
-use Rattle.windows.proofs.Laws as laws
+-- `mmio::access` meets its contract. Assumes nothing.
+use Rattle.mmio.proofs.Laws as laws
 use borrow.Author.Needs.{needs}
-use Rattle.windows.proofs.access.Statement.{statement}
-use Rattle.windows.proofs.access.Tie as tie
+use Rattle.mmio.proofs.access.Statement.{statement}
+use Rattle.mmio.proofs.access.Tie as tie
 
 enum-known-hit : tie.Need-enum-known-hit
 enum-known-hit c = search needs

@@ -1,8 +1,8 @@
--- `windows::m32_open` meets its contract. Assumes nothing.
-use Rattle.windows.proofs.Laws as laws
+-- `open_windows::m32_open` meets its contract. Assumes nothing.
+use Rattle.open_windows.proofs.Laws as laws
 use borrow.Author.Needs.{needs}
-use Rattle.windows.proofs.m32_open.Statement.{statement}
-use Rattle.windows.proofs.m32_open.Tie as tie
+use Rattle.open_windows.proofs.m32_open.Statement.{statement}
+use Rattle.open_windows.proofs.m32_open.Tie as tie
 
 is-power-requires : tie.Need-is-power-requires
 is-power-requires c κs = search needs

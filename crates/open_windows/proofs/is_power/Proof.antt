@@ -1,8 +1,8 @@
--- `windows::is_power` meets its contract. Assumes nothing.
-use Rattle.windows.proofs.Powers as powers
+-- `open_windows::is_power` meets its contract. Assumes nothing.
+use Rattle.open_windows.proofs.Powers as powers
 use borrow.Author.Needs.{needs}
-use Rattle.windows.proofs.is_power.Statement.{statement}
-use Rattle.windows.proofs.is_power.Tie as tie
+use Rattle.open_windows.proofs.is_power.Statement.{statement}
+use Rattle.open_windows.proofs.is_power.Tie as tie
 
 returns : tie.Need-returns
 returns c = search powers.power-below

@@ -1,8 +1,8 @@
--- `windows::ones` meets its contract. Assumes nothing.
-use Rattle.windows.proofs.Laws as laws
+-- `mmio::ones` meets its contract. Assumes nothing.
+use Rattle.mmio.proofs.Laws as laws
 use borrow.Author.Needs.{needs}
-use Rattle.windows.proofs.ones.Statement.{statement}
-use Rattle.windows.proofs.ones.Tie as tie
+use Rattle.mmio.proofs.ones.Statement.{statement}
+use Rattle.mmio.proofs.ones.Tie as tie
 
 mul-result : tie.Need-mul-result
 mul-result c = search needs

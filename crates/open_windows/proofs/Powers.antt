@@ -21,7 +21,7 @@ use Rattle.kinds.specs.Powers.{one-shl}
 use Rattle.kinds.specs.Tests.{by-cases, or-cases, or-left, or-right}
 use Rattle.kinds.specs.declared.number.ByteAddress.{ByteAddress}
 use Rattle.profile.specs.Windows.{isPower, segmentOf}
-use Rattle.windows.specs.Size.{Power, WindowSize}
+use Rattle.open_windows.specs.Size.{Power, WindowSize}
 
 halved : (n : ℕ) → n * 2 / 2 ≡ n
 halved n = omega arith

@@ -1,9 +1,9 @@
--- `windows::access_formed` meets its contract. Assumes nothing.
+-- `forms::access_formed` meets its contract. Assumes nothing.
 use Rattle.profile.specs.Step.{accessFormed}
-use Rattle.windows.proofs.Laws as laws
+use Rattle.forms.proofs.Laws as laws
 use Rattle.kinds.specs.Tests.{tests}
-use Rattle.windows.proofs.access_formed.Statement.{statement}
-use Rattle.windows.proofs.access_formed.Tie as tie
+use Rattle.forms.proofs.access_formed.Statement.{statement}
+use Rattle.forms.proofs.access_formed.Tie as tie
 
 returns : tie.Need-returns
 returns c = search laws.formed-byte

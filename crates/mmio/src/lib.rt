@@ -1,0 +1,46 @@
+// What a load or store of a PE is answered once its window is known.
+use kinds::answer::Answer;
+use kinds::lookup::Hit;
+use kinds::number::ByteAddress;
+use kinds::number::PeNumber;
+ghost use mathlib.Core.Path.{_≡_};
+ghost use mathlib.Core.Bool.{cond};
+ghost use Prim.Native.Nat.{min};
+ghost use Rattle.kinds.specs.declared.answer.Answer.the-variants.{Pass};
+ghost use Rattle.profile.specs.Freeze.{mmioStopped};
+ghost use Rattle.profile.specs.Step.{accessed};
+ghost use Rattle.profile.specs.Windows.{onesOf};
+
+// A load or store that reached a window of a PE, by the PE's stop word.
+fn unless_stopped(address: ByteAddress, pe: PeNumber, stop: u64, dead: Answer) -> Answer
+    ensures { λ r. ⌜ r ≡ cond (mmioStopped stop) dead (Pass address pe 0) ⌝ }
+{
+    if stop % 2 == 1 {
+        return dead;
+    }
+    Answer::Pass {
+        address,
+        pe,
+        words: 0,
+    }
+}
+
+// A load or store of a PE; `dead` is its answer where the PE is MMIO stopped.
+pub fn access(hit: Hit, pe: PeNumber, stop: u64, dead: Answer) -> Answer
+    ensures { λ r. ⌜ r ≡ accessed hit pe stop dead ⌝ }
+{
+    match hit {
+        Hit::At { pe: _, pci } => unless_stopped(pci, pe, stop, dead),
+        Hit::Miss => dead,
+    }
+}
+
+// All ones of a width in bytes, of which a word has at most 8.
+pub fn ones(width: u64) -> u64
+    ensures { λ r. ⌜ r ≡ onesOf (min width 8) ⌝ }
+{
+    if width < 8 {
+        return (1u64 << (8 * width)) - 1;
+    }
+    0xFFFF_FFFF_FFFF_FFFF
+}
