@@ -1,6 +1,6 @@
 // A DMA of a PE: what it comes to by the stop bits of the PE and the class of its address.
+use addresses;
 use endpoints;
-use entries::entry;
 use interrupts;
 use kinds::answer::Reason;
 use kinds::number::ByteAddress;
@@ -56,9 +56,9 @@ fn dma_by_class(
 ) -> Outcome
     ensures { λ r. ⌜ r ≡ classed (classOf address) sizes (now (entries .entry)) (now (memory .entry)) (now (interrupts .entry)) pe direction address length «data» ⌝ }
 {
-    match entry::class_of(address) {
+    match addresses::class_of(address) {
         AddressClass::Dma => {
-            let entry = entry::entry_of(entries, pe, address);
+            let entry = addresses::entry_of(entries, pe, address);
             return dma::translate(memory, entry, pe, direction, address);
         }
         AddressClass::Msi32 => {

@@ -1,3 +1,2 @@
-mod EntryNeeds
 mod ShapeNeeds
 mod AskNeeds

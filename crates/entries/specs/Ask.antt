@@ -1,5 +1,4 @@
--- What an address and an entry say before memory is read, as the code goes: each is a part of a definition of `profile`.
---     lowClass a          the class of an address whose top four bits are 0
+-- What an entry says of an address before memory is read, as the code goes: each is a part of a definition of `profile`.
 --     known e             a page code that has a size; sizeCode e: its size
 --     shapeOf e           the page size and span of a good entry with pages
 --     askedBypass e a     an entry whose page code is 0
@@ -7,13 +6,11 @@
 --     asked e a           any entry
 --     Shaped e            what a walk asks of an entry: its table code, its levels and the bits of its indexes are small
 -- Assumes nothing.
-use mathlib.Core.Bool.{Bool, cond, _&&_, _||_}
+use mathlib.Core.Bool.{Bool, cond, _||_}
 use Prim.Native.Nat.{_*_, _^_, _≤_}
-use lib.Dec.{leb, ltb, eqb}
+use lib.Dec.{ltb, eqb}
 use Rattle.kinds.specs.declared.number.ByteAddress.{ByteAddress}
 use Rattle.kinds.specs.declared.record.TranslationEntry.{TranslationEntry}
-use Rattle.kinds.specs.declared.request.AddressClass.{AddressClass}
-use Rattle.kinds.specs.declared.request.AddressClass.the-variants.{Dma, Msi32}
 use Rattle.profile.specs.Entry.{offset, pageSize, indexBits, span, tableGood, bypass, bypassGood, inBypass, pagesGood}
 use Rattle.entries.specs.declared.ask.Asked.{Asked}
 use Rattle.entries.specs.declared.ask.Asked.the-variants.{Walk, Bypass, BadEntry, OutsideWindow}
@@ -21,9 +18,6 @@ use Rattle.entries.specs.declared.shape.Shape.{Shape}
 use Rattle.entries.specs.declared.shape.Shape.the-variants.{Pages, Bad}
 use Rattle.entries.specs.declared.shape.SizeCode.{SizeCode}
 use Rattle.entries.specs.declared.shape.SizeCode.the-variants.{Known, Unknown}
-
-unfoldable pub lowClass : ByteAddress → AddressClass
-lowClass a = cond (leb 0xFFFF0000 (a .0) && leb (a .0) 0xFFFFFFFF) Msi32 Dma
 
 abbrev pub known : TranslationEntry → Bool
 known e = eqb (e .page) 1 || eqb (e .page) 5 || eqb (e .page) 13 || eqb (e .page) 17

@@ -2,9 +2,9 @@
 ghost use mathlib.Core.Path.{_≡_};
 ghost use Prim.Native.Nat.{_≤_};
 ghost use Rattle.entries.specs.Ask.{asked, askedBypass, askedPages};
-use crate::entry::offset_of;
 use crate::shape::Shape;
 use crate::shape::shape_of;
+use addresses::offset_of;
 use kinds::number::ByteAddress;
 use kinds::number::PageSize;
 use kinds::record::TranslationEntry;

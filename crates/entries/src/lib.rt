@@ -1,4 +1,3 @@
-// Translation entries: the class of an address, the entry that the address picks, and what the entry says of it before memory is read.
+// Translation entries: what an entry says of an address before memory is read.
 pub mod ask;
-pub mod entry;
 pub mod shape;

@@ -1,8 +1,8 @@
--- `entries::entry::class_of` meets its contract. Assumes nothing.
-use Rattle.entries.proofs.EntryNeeds as laws
+-- `addresses::class_of` meets its contract. Assumes nothing.
+use Rattle.addresses.proofs.AddressNeeds as laws
 use borrow.Author.Needs.{needs}
-use Rattle.entries.proofs.entry.class_of.Statement.{statement}
-use Rattle.entries.proofs.entry.class_of.Tie as tie
+use Rattle.addresses.proofs.class_of.Statement.{statement}
+use Rattle.addresses.proofs.class_of.Tie as tie
 
 cast-match : tie.Need-cast-match
 cast-match c = search needs

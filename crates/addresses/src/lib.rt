@@ -1,7 +1,7 @@
 // What an address of a DMA picks: its class, a record of its PE, and the offset.
 ghost use mathlib.Core.Path.{_≡_};
 ghost use Rattle.profile.specs.Entry.{classOf, half, offset, entryIn};
-ghost use Rattle.entries.specs.Ask.{lowClass};
+ghost use Rattle.addresses.specs.Class.{lowClass};
 use kinds::number::ByteAddress;
 use kinds::number::PeNumber;
 use kinds::record::TranslationEntry;

@@ -14,7 +14,7 @@ use Rattle.kinds.specs.declared.number.PeNumber.{PeNumber}
 use Rattle.kinds.specs.declared.record.TranslationEntry.{TranslationEntry}
 use Rattle.profile.specs.Entry.{classOf, half, entryIn}
 use Rattle.profile.specs.Tables.{entryWords, recordWords}
-use Rattle.entries.specs.Ask.{lowClass}
+use Rattle.addresses.specs.Class.{lowClass}
 
 module _ (a : ByteAddress) where
   pub low-class : {r : AddressClass} → a .0 / 2 ^ 60 ≡ 0 → r ≡ lowClass a → r ≡ classOf a

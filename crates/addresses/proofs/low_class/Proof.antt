@@ -1,8 +1,8 @@
--- `entries::entry::low_class` meets its contract. Assumes nothing.
+-- `addresses::low_class` meets its contract. Assumes nothing.
 use native.Mathlib.Omega.{arith}
-use Rattle.entries.proofs.EntryNeeds as laws
-use Rattle.entries.proofs.entry.low_class.Statement.{statement}
-use Rattle.entries.proofs.entry.low_class.Tie as tie
+use Rattle.addresses.proofs.AddressNeeds as laws
+use Rattle.addresses.proofs.low_class.Statement.{statement}
+use Rattle.addresses.proofs.low_class.Tie as tie
 
 returns : tie.Need-returns
 returns c = laws.msi-window _ (omega arith) (omega arith)

@@ -1,8 +1,8 @@
--- `entries::entry::entry_of` meets its contract. Assumes nothing.
-use Rattle.entries.proofs.EntryNeeds as laws
+-- `addresses::entry_of` meets its contract. Assumes nothing.
+use Rattle.addresses.proofs.AddressNeeds as laws
 use borrow.Author.Needs.{needs}
-use Rattle.entries.proofs.entry.entry_of.Statement.{statement}
-use Rattle.entries.proofs.entry.entry_of.Tie as tie
+use Rattle.addresses.proofs.entry_of.Statement.{statement}
+use Rattle.addresses.proofs.entry_of.Tie as tie
 
 cast-first : tie.Need-cast-first
 cast-first c = search needs
