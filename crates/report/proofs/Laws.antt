@@ -5,11 +5,12 @@ use Prim.Native.Nat.{ℕ, zero, suc, _+_, _-_, _/_, _%_, _≤_, _<_}
 use native.Mathlib.Nat.{add-zero, add-suc, mod-lt}
 use native.Mathlib.Numerals.{add-one, sub-one}
 use native.Mathlib.Omega.{arith}
-use lib.ListN.{length, drop, getD, set, drop-of-length-le, length-append, List·getD-eq-default}
-use lib.Seq.{sets, drop-cons}
+use lib.ListN.{length, take, drop, getD, set, drop-of-length-le, length-append}
+use lib.Seq.{sets, length-sets, drop-cons}
 use borrow.Author.Tests.{lt-ltb, le-ltb, lt-leb, le-leb}
-use Rattle.fields.specs.Bytes.{bytes}
-use Rattle.report.specs.Text.{glyph, digits, placesFrom, places, decimal, hexadecimal, names, nameOf, ended, headOf, tailOf}
+use Rattle.names.specs.Name.{padded}
+use Rattle.names.specs.NameLaws.{name-most, padded-length, padded-name}
+use Rattle.report.specs.Text.{glyph, digits, placesFrom, places, decimal, hexadecimal, nameOf, ended, headOf, tailOf}
 use Rattle.report.specs.TextLaws.{length-ended, length-digits}
 use Rattle.report.specs.Written.{placed, written}
 use Rattle.report.specs.WrittenLaws.{sets-append, sets-last, written-is}
@@ -91,25 +92,32 @@ module _ (l : List ℕ) (a n e : ℕ) {c : ℕ} (f : c ≡ places n) where
   pub decimal-past : {r : ℕ} → r ≡ a + c + 1 → r ≡ a + length (ended e (decimal n))
   decimal-past h = digits-past l a 10 (places n) n e (rw f at h)
 
--- the name of answer number x, which is k
-module _ (l : List ℕ) (a x k : ℕ) (e : x ≡ k) where
-  pub named : {m : List ℕ} → m ≡ sets l a (ended 9 (nameOf k)) → m ≡ sets l a (ended 9 (nameOf x))
-  named h = rw e h
+-- the name of answer number x, n letters of t, and a tab
+module _ (a x : ℕ) {t : List ℕ} {n : ℕ} (e : t ≡ padded (nameOf x)) (f : n ≡ length (nameOf x)) where
+  pub letters-inside : n ≤ length t
+  letters-inside = rw (e, f, padded-length) (name-most x)
 
-  pub named-past : {r : ℕ} → r ≡ a + length (ended 9 (nameOf k)) → r ≡ a + length (ended 9 (nameOf x))
-  named-past h = rw e h
+  letters : take n t ≡ nameOf x
+  letters = rw (e, f) (padded-name x)
 
--- none of the names: 7 stands for them all
-module _ (l : List ℕ) (a x : ℕ) (from : 4 ≤ x) (n4 : x ≡ 4 → ⊥) (n5 : x ≡ 5 → ⊥) (n6 : x ≡ 6 → ⊥) where
-  name-bad : nameOf x ≡ nameOf 7
-  unfolding nameOf
-  name-bad = List·getD-eq-default names (bytes "bad") {n = x} (omega arith)
+  pub letters-count : n ≡ length (take n t)
+  letters-count = rw letters f
 
-  pub unnamed : {m : List ℕ} → m ≡ sets l a (ended 9 (nameOf 7)) → m ≡ sets l a (ended 9 (nameOf x))
-  unnamed h = rw name-bad h
+  pub letters-room : (l : List ℕ) → a + 7 ≤ length l → a + length (take n t) ≤ length l
+  letters-room l h = rw letters (omega (arith, name-most x))
 
-  pub unnamed-past : {r : ℕ} → r ≡ a + length (ended 9 (nameOf 7)) → r ≡ a + length (ended 9 (nameOf x))
-  unnamed-past h = rw name-bad h
+  module _ {i : ℕ} (p : i ≡ a + length (take n t)) where
+    pub tab-room : (l : List ℕ) {m : List ℕ} → a + 7 ≤ length l → m ≡ sets l a (take n t) → i < length m
+    tab-room l h g = rw (g, length-sets) (omega (arith, name-most x, rw letters at p))
+
+    pub name-ended : (l : List ℕ) {m q : List ℕ} → m ≡ sets l a (take n t) → q ≡ sets m i (9 ∷ []) → q ≡ sets l a (ended 9 (nameOf x))
+    name-ended l g h = sets-then a (nameOf x) (9 ∷ []) (rw letters at p) l (rw letters at g) h
+
+    pub name-past : {r : ℕ} → r ≡ i + 1 → r ≡ a + length (ended 9 (nameOf x))
+    name-past h = past-then a (nameOf x) (9 ∷ []) (rw letters at p) h
+
+    pub name-within : {r : ℕ} → r ≡ i + 1 → r ≤ a + 7
+    name-within h = omega (arith, name-most x, rw letters at p, h)
 
 -- the first two fields of a line
 module _ (a n x : ℕ) {i : ℕ} (p : i ≡ a + length (ended 9 (decimal n))) where

@@ -3,17 +3,17 @@
 --     answerLine n x      output line n: n, the answer's name, its reason, its value and its count of table words, parted by tabs, with a line feed
 --     decimal n           number n in decimal, with no zero in front
 --     hexadecimal v       value v in 16 digits
---     nameOf k            the name of answer number k; `bad` from 7 on
+--     nameOf k            the name of answer number k; `bad` from 7 on (of `names`)
 --     badNumbers          what a bad line answers
 -- Assumes nothing.
 use mathlib.Core.Bool.{cond}
 use mathlib.Core.List.{List, [], _∷_, _++_}
 use Prim.Native.Nat.{ℕ, zero, suc, _+_, _/_, _%_}
 use lib.Dec.{ltb}
-use lib.ListN.{getD}
 use Rattle.fields.specs.Bytes.{bytes}
 use Rattle.kinds.specs.Answer.{plain}
 use Rattle.kinds.specs.declared.answer.Numbers.{Numbers}
+unfoldable pub use Rattle.names.specs.Name.{nameOf}
 
 -- the digit d, below 16, as a byte
 abbrev pub glyph : ℕ → ℕ
@@ -38,12 +38,6 @@ decimal n = digits 10 (places n) n
 
 abbrev pub hexadecimal : ℕ → List ℕ
 hexadecimal v = digits 16 16 v
-
-abbrev pub names : List (List ℕ)
-names = bytes "pass" ∷ bytes "msi" ∷ bytes "held" ∷ bytes "ones" ∷ bytes "drop" ∷ bytes "refuse" ∷ bytes "done" ∷ []
-
-unfoldable pub nameOf : ℕ → List ℕ
-nameOf k = getD names k (bytes "bad")
 
 -- a field and the byte that ends it
 abbrev pub ended : ℕ → List ℕ → List ℕ

@@ -5,14 +5,14 @@
 -- Assumes nothing.
 use mathlib.Core.Path.{_≡_, refl, _∙_}
 use mathlib.Core.List.{List, [], _∷_}
-use Prim.Native.Nat.{ℕ, zero, suc, _+_, _/_, _%_, _≤_, max}
+use Prim.Native.Nat.{ℕ, zero, suc, _+_, _/_, _%_, _≤_}
 use native.Mathlib.Omega.{arith}
 use lib.Dec.{ltb}
-use lib.ListN.{length, getD, length-append}
-use Rattle.fields.specs.Bytes.{bytes}
+use lib.ListN.{length, length-append}
 use Rattle.kinds.specs.Tests.{by-cases}
 use Rattle.kinds.specs.declared.answer.Numbers.{Numbers}
-use Rattle.report.specs.Text.{glyph, digits, placesFrom, places, decimal, names, nameOf, ended, headOf, tailOf, answerLine, lineMost}
+pub use Rattle.names.specs.NameLaws.{name-most}
+use Rattle.report.specs.Text.{glyph, digits, placesFrom, places, decimal, ended, headOf, tailOf, answerLine, lineMost}
 
 pub length-ended : (b : ℕ) (f : List ℕ) → length (ended b f) ≡ length f + 1
 length-ended b f = length-append f (b ∷ [])
@@ -32,20 +32,6 @@ places-most n = places-from 19 n
 
 pub decimal-most : (n : ℕ) → length (decimal n) ≤ 20
 decimal-most n = rw (length-digits 10 (places n) n) (places-most n)
-
--- the length of the longest text
-abbrev longest : List (List ℕ) → ℕ
-longest [] = 0
-longest (w ∷ ws) = max (length w) (longest ws)
-
-chosen-most : (ws : List (List ℕ)) (k : ℕ) (d : List ℕ) → length (getD ws k d) ≤ max (length d) (longest ws)
-chosen-most [] k d = omega arith
-chosen-most (w ∷ ws) zero d = omega arith
-chosen-most (w ∷ ws) (suc k) d = omega (arith, chosen-most ws k d)
-
-pub name-most : (k : ℕ) → length (nameOf k) ≤ 6
-unfolding nameOf
-name-most k = chosen-most names k (bytes "bad")
 
 pub line-most : (n : ℕ) (x : Numbers) → length (answerLine n x) ≤ lineMost
 unfolding headOf tailOf

@@ -1,5 +1,7 @@
 // The lines that a replay writes, as bytes in a lent slice.
 use kinds::answer::Numbers;
+use names::name_bytes;
+use names::name_length;
 ghost use mathlib.Core.Path.{_≡_};
 ghost use mathlib.Core.List.{[], _∷_, _++_};
 ghost use Prim.Native.Nat.{_+_, _≤_, _<_};
@@ -102,36 +104,10 @@ fn name_field(out: &mut [u8], at: usize, name: u64) -> usize
     requires { ⌜ at + 7 ≤ length (now out) ⌝ }
     ensures { λ r. ⌜ (now (out .exit) ≡ sets (now (out .entry)) at (spec.ended 9 (spec.nameOf name))) × (r ≡ at + length (spec.ended 9 (spec.nameOf name))) × (r ≤ at + 7) ⌝ }
 {
-    if name == 0 {
-        return put(out, at, b"pass\t");
-    }
-    if name == 1 {
-        return put(out, at, b"msi\t");
-    }
-    if name == 2 {
-        return put(out, at, b"held\t");
-    }
-    if name == 3 {
-        return put(out, at, b"ones\t");
-    }
-    later_name(out, at, name)
-}
-
-// A name after `ones`.
-fn later_name(out: &mut [u8], at: usize, name: u64) -> usize
-    requires { ⌜ (at + 7 ≤ length (now out)) × (4 ≤ name) ⌝ }
-    ensures { λ r. ⌜ (now (out .exit) ≡ sets (now (out .entry)) at (spec.ended 9 (spec.nameOf name))) × (r ≡ at + length (spec.ended 9 (spec.nameOf name))) × (r ≤ at + 7) ⌝ }
-{
-    if name == 4 {
-        return put(out, at, b"drop\t");
-    }
-    if name == 5 {
-        return put(out, at, b"refuse\t");
-    }
-    if name == 6 {
-        return put(out, at, b"done\t");
-    }
-    put(out, at, b"bad\t")
+    let text = name_bytes(name);
+    let length = name_length(name);
+    let end = put(out, at, &text[..length]);
+    put_byte(out, end, TAB)
 }
 
 // All of `text`.

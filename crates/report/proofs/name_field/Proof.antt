@@ -1,91 +1,34 @@
 -- `report::name_field` meets its contract. Assumes nothing.
-use Rattle.report.specs.Text.{nameOf}
 use Rattle.report.proofs.Laws as laws
 use borrow.Author.Needs.{needs}
 use Rattle.report.proofs.name_field.Statement.{statement}
 use Rattle.report.proofs.name_field.Tie as tie
 
+name-bytes-requires : tie.Need-name-bytes-requires
+name-bytes-requires c κs = search needs
+
+name-length-requires : tie.Need-name-length-requires
+name-length-requires c κs = search needs
+
+array-share-prefix-text : tie.Need-array-share-prefix-text
+array-share-prefix-text c = search laws.letters-inside
+
 slice-aggregate-put : tie.Need-slice-aggregate-put
-slice-aggregate-put c = search needs
+slice-aggregate-put c = search (needs, laws.letters-count)
 
 put-requires : tie.Need-put-requires
-put-requires c κs = search needs
+put-requires c κs = search laws.letters-room
+
+put-byte-requires : tie.Need-put-byte-requires
+put-byte-requires c κs = search laws.tab-room
 
 same-length : tie.Need-same-length
 same-length c = search needs
 
 returns : tie.Need-returns
-unfolding nameOf
-returns c = search (needs, laws.named, laws.named-past)
-
-slice-aggregate-put-2 : tie.Need-slice-aggregate-put-2
-slice-aggregate-put-2 c = search needs
-
-put-requires-2 : tie.Need-put-requires-2
-put-requires-2 c κs = search needs
-
-same-length-2 : tie.Need-same-length-2
-same-length-2 c = search needs
-
-returns-2 : tie.Need-returns-2
-unfolding nameOf
-returns-2 c = search (needs, laws.named, laws.named-past)
-
-slice-aggregate-put-3 : tie.Need-slice-aggregate-put-3
-slice-aggregate-put-3 c = search needs
-
-put-requires-3 : tie.Need-put-requires-3
-put-requires-3 c κs = search needs
-
-same-length-3 : tie.Need-same-length-3
-same-length-3 c = search needs
-
-returns-3 : tie.Need-returns-3
-unfolding nameOf
-returns-3 c = search (needs, laws.named, laws.named-past)
-
-slice-aggregate-put-4 : tie.Need-slice-aggregate-put-4
-slice-aggregate-put-4 c = search needs
-
-put-requires-4 : tie.Need-put-requires-4
-put-requires-4 c κs = search needs
-
-same-length-4 : tie.Need-same-length-4
-same-length-4 c = search needs
-
-returns-4 : tie.Need-returns-4
-unfolding nameOf
-returns-4 c = search (needs, laws.named, laws.named-past)
-
-later-name-requires : tie.Need-later-name-requires
-later-name-requires c κs = search needs
-
-same-length-5 : tie.Need-same-length-5
-same-length-5 c = search needs
-
-returns-5 : tie.Need-returns-5
-returns-5 c = search needs
+returns c = search (laws.name-ended, laws.name-past, laws.name-within)
 
 pub name-field-spec : {M : Type 1} → statement M
 name-field-spec =
     tie.close
-    (tie.spec
-    slice-aggregate-put
-    put-requires
-    same-length
-    returns
-    slice-aggregate-put-2
-    put-requires-2
-    same-length-2
-    returns-2
-    slice-aggregate-put-3
-    put-requires-3
-    same-length-3
-    returns-3
-    slice-aggregate-put-4
-    put-requires-4
-    same-length-4
-    returns-4
-    later-name-requires
-    same-length-5
-    returns-5)
+    (tie.spec name-bytes-requires name-length-requires array-share-prefix-text slice-aggregate-put put-requires put-byte-requires same-length returns)

@@ -1,0 +1,21 @@
+-- `names::name_length` meets its contract. Assumes nothing.
+use Rattle.names.specs.Name.{nameOf, padded}
+use Rattle.names.proofs.Laws as laws
+use borrow.Author.Needs.{needs}
+use Rattle.names.proofs.name_length.Statement.{statement}
+use Rattle.names.proofs.name_length.Tie as tie
+
+returns : tie.Need-returns
+returns c = search laws.length-three
+
+returns-2 : tie.Need-returns-2
+returns-2 c = search laws.length-six
+
+returns-3 : tie.Need-returns-3
+returns-3 c = search laws.length-four
+
+returns-4 : tie.Need-returns-4
+returns-4 c = search laws.length-bad
+
+pub name-length-spec : {M : Type 1} → statement M
+name-length-spec = tie.close (tie.spec returns returns-2 returns-3 returns-4)
