@@ -3,11 +3,10 @@
 --     fields-after        the fields after a place: the next, and those after it; fields-end: none from the end of the line on
 --     after-end           the field after the end of the line is empty
 --     only-bad, only-more, only-last    what the one field after a place holds: a field that is not read, more than one field, the last field
---     number-got, number-not, last-got, last-not, both-got    what was found, taken apart
 -- Assumes nothing.
 use mathlib.Core.Path.{_≡_, refl, ap}
 use mathlib.Core.List.{List, [], _∷_}
-use mathlib.Core.Option.{Option, none, some}
+use mathlib.Core.Option.{Option, none}
 use Prim.Native.Nat.{ℕ, _+_, _-_, _≤_, _<_}
 use native.Mathlib.Numerals.{add-one}
 use native.Mathlib.Omega.{arith}
@@ -16,11 +15,8 @@ use lib.ListN.{length, take, drop, drop-of-length-le}
 use lib.Seq.{drop-cons, drop-drop, length-take-le}
 use borrow.Author.Tests.{ltb-true, ltb-false}
 use Rattle.kinds.specs.Tests.{by-cases}
-use Rattle.fields.specs.declared.LastNumber.the-variants.{Value as LastValue, Bad as NoLast}
-use Rattle.fields.specs.declared.LastNumbers.the-variants.{Values}
-use Rattle.fields.specs.declared.NumberField.the-variants.{Value, Bad as NoNumber}
 use Rattle.fields.specs.Field.{push, fieldsOf, only}
-use Rattle.fields.specs.Place.{cutOf, firstOf, fieldAfter, endAfter, rest, fieldsAfter, numberEnds, numberRead, bothRead}
+use Rattle.fields.specs.Place.{cutOf, firstOf, fieldAfter, endAfter, rest, fieldsAfter}
 
 cut-most : (l : List ℕ) → cutOf l ≤ length l
 unfolding cutOf
@@ -78,24 +74,3 @@ module _ {A : Type 0} (read : List ℕ → Option A) where
         by-cases (ltb p (length l))
         (λ o. rw (fields-after l p (ltb-true p (length l) o), fields-end l (endAfter l p) h))
         (λ o. rw (fields-end l p (ltb-false p (length l) o), after-end l p (ltb-false p (length l) o), empty))
-
-pub number-got : (o : Option ℕ) (n v e : ℕ) → numberEnds o n ≡ Value v e → (o ≡ some v) × (n ≡ e)
-number-got none n v e g = (cc, cc)
-number-got (some w) n v e g = (cc, cc)
-
-pub number-not : (o : Option ℕ) (n : ℕ) → numberEnds o n ≡ NoNumber → o ≡ none
-number-not none n g = refl
-number-not (some w) n g = cc
-
-pub last-got : (o : Option ℕ) (v : ℕ) → numberRead o ≡ LastValue v → o ≡ some v
-last-got none v g = cc
-last-got (some w) v g = cc
-
-pub last-not : (o : Option ℕ) → numberRead o ≡ NoLast → o ≡ none
-last-not none g = refl
-last-not (some w) g = cc
-
-pub both-got : (o m : Option ℕ) (a b : ℕ) → bothRead o m ≡ Values a b → (o ≡ some a) × (m ≡ some b)
-both-got none m a b g = (cc, cc)
-both-got (some v) none a b g = (cc, cc)
-both-got (some v) (some w) a b g = (cc, cc)

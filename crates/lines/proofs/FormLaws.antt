@@ -13,14 +13,16 @@ use Rattle.kinds.specs.declared.request.Direction.{Direction}
 use Rattle.kinds.specs.declared.request.Part.{Part}
 use Rattle.fields.specs.Bytes.{bytes}
 use Rattle.fields.specs.Field.{numberOf, only, is}
-use Rattle.fields.specs.Place.{firstOf, fieldAfter, endAfter, fieldsAfter, numberEnds, bothRead, numberField, lastNumber, lastNumbers}
-use Rattle.fields.specs.PlaceLaws.{fields-first, fields-after, fields-end, after-end, number-got, number-not, last-got, last-not, both-got}
-use Rattle.fields.specs.declared.LastNumber.{LastNumber}
-use Rattle.fields.specs.declared.LastNumber.the-variants.{Value as LastValue, Bad as NoLast}
-use Rattle.fields.specs.declared.LastNumbers.{LastNumbers}
-use Rattle.fields.specs.declared.LastNumbers.the-variants.{Values, Bad as NoLasts}
-use Rattle.fields.specs.declared.NumberField.{NumberField}
-use Rattle.fields.specs.declared.NumberField.the-variants.{Value, Bad as NoNumber}
+use Rattle.fields.specs.Place.{firstOf, fieldAfter, endAfter, fieldsAfter}
+use Rattle.fields.specs.PlaceLaws.{fields-first, fields-after, fields-end, after-end}
+use Rattle.numbers.specs.NumberPlace.{numberEnds, bothRead, numberField, lastNumber, lastNumbers}
+use Rattle.numbers.specs.NumberPlaceLaws.{number-got, number-not, last-got, last-not, both-got}
+use Rattle.numbers.specs.declared.LastNumber.{LastNumber}
+use Rattle.numbers.specs.declared.LastNumber.the-variants.{Value as LastValue, Bad as NoLast}
+use Rattle.numbers.specs.declared.LastNumbers.{LastNumbers}
+use Rattle.numbers.specs.declared.LastNumbers.the-variants.{Values, Bad as NoLasts}
+use Rattle.numbers.specs.declared.NumberField.{NumberField}
+use Rattle.numbers.specs.declared.NumberField.the-variants.{Value, Bad as NoNumber}
 use Rattle.lines.specs.declared.Line.{Line}
 use Rattle.lines.specs.declared.Line.the-variants.{Bad}
 use Rattle.lines.specs.declared.Table.{Table}

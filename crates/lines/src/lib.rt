@@ -1,13 +1,7 @@
 // What a line of replay text says, from its bytes.
 mod name;
 
-use fields::LastNumber;
-use fields::LastNumbers;
-use fields::NumberField;
 use fields::first;
-use fields::last_number;
-use fields::last_numbers;
-use fields::number_field;
 use fields::same;
 use kinds::number::ByteAddress;
 use kinds::request::Direction;
@@ -18,6 +12,12 @@ use name::TableField;
 use name::direction_field;
 use name::last_part;
 use name::table_field;
+use numbers::LastNumber;
+use numbers::LastNumbers;
+use numbers::NumberField;
+use numbers::last_number;
+use numbers::last_numbers;
+use numbers::number_field;
 ghost use mathlib.Core.Path.{_≡_};
 ghost use lib.ListN.{drop};
 ghost use Rattle.fields.specs.Place.{fieldsAfter};

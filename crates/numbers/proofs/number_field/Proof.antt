@@ -1,8 +1,8 @@
--- `fields::number_field` meets its contract. Assumes nothing.
-use Rattle.fields.proofs.Laws as laws
+-- `numbers::number_field` meets its contract. Assumes nothing.
+use Rattle.numbers.proofs.Laws as laws
 use borrow.Author.Needs.{needs}
-use Rattle.fields.proofs.number_field.Statement.{statement}
-use Rattle.fields.proofs.number_field.Tie as tie
+use Rattle.numbers.proofs.number_field.Statement.{statement}
+use Rattle.numbers.proofs.number_field.Tie as tie
 
 returns : tie.Need-returns
 returns c = search laws.number-outside

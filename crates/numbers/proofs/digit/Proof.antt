@@ -1,8 +1,8 @@
--- `fields::digit` meets its contract. Assumes nothing.
+-- `numbers::digit` meets its contract. Assumes nothing.
 use Rattle.kinds.specs.Tests.{tests}
 use borrow.Author.Needs.{needs}
-use Rattle.fields.proofs.digit.Statement.{statement}
-use Rattle.fields.proofs.digit.Tie as tie
+use Rattle.numbers.proofs.digit.Statement.{statement}
+use Rattle.numbers.proofs.digit.Tie as tie
 
 returns : tie.Need-returns
 returns c = search tests

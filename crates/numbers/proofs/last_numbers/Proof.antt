@@ -1,8 +1,8 @@
--- `fields::last_numbers` meets its contract. Assumes nothing.
-use Rattle.fields.proofs.Laws as laws
+-- `numbers::last_numbers` meets its contract. Assumes nothing.
+use Rattle.numbers.proofs.Laws as laws
 use borrow.Author.Needs.{needs}
-use Rattle.fields.proofs.last_numbers.Statement.{statement}
-use Rattle.fields.proofs.last_numbers.Tie as tie
+use Rattle.numbers.proofs.last_numbers.Statement.{statement}
+use Rattle.numbers.proofs.last_numbers.Tie as tie
 
 number-field-requires : tie.Need-number-field-requires
 number-field-requires c κs = search needs

@@ -1,8 +1,8 @@
--- `fields::last_number` meets its contract. Assumes nothing.
-use Rattle.fields.proofs.Laws as laws
+-- `numbers::last_number` meets its contract. Assumes nothing.
+use Rattle.numbers.proofs.Laws as laws
 use borrow.Author.Needs.{needs}
-use Rattle.fields.proofs.last_number.Statement.{statement}
-use Rattle.fields.proofs.last_number.Tie as tie
+use Rattle.numbers.proofs.last_number.Statement.{statement}
+use Rattle.numbers.proofs.last_number.Tie as tie
 
 number-field-requires : tie.Need-number-field-requires
 number-field-requires c κs = search needs

@@ -1,12 +1,12 @@
--- `fields::number` meets its contract. Assumes nothing.
+-- `numbers::number` meets its contract. Assumes nothing.
 use mathlib.Core.Path.{_≡_}
 use Prim.Native.Nat.{_-_, _*_, _^_, _≤_, _<_}
 use lib.ListN.{length, drop}
 use borrow.Author.Needs.{needs}
-use Rattle.fields.proofs.Laws as laws
+use Rattle.numbers.proofs.Laws as laws
 use Rattle.fields.specs.Field.{numberOf, numberFrom}
-use Rattle.fields.proofs.number.Statement.{statement}
-use Rattle.fields.proofs.number.Tie as tie
+use Rattle.numbers.proofs.number.Statement.{statement}
+use Rattle.numbers.proofs.number.Tie as tie
 
 abbrev Inv-loop : tie.InvT-loop
 Inv-loop text end value₀ i₀ value i = (i ≤ length text) × (1 ≤ length text) × (length text ≤ 16) × (value < 2 ^ (4 * i)) × (numberOf text ≡ numberFrom value (drop i text))

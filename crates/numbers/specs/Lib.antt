@@ -1,0 +1,2 @@
+pub mod NumberPlace
+pub mod NumberPlaceLaws
