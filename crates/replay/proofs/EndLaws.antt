@@ -1,0 +1,89 @@
+-- What the end of a line cites.
+--     line-fits                               where there is room for a line, it can be written
+--     ended-went, ended-none, ended-full      it went; the tables, or the output and the count, have no room
+-- Assumes nothing.
+use mathlib.Core.Path.{_≡_, refl, sym, ap, _∙_}
+use mathlib.Core.Bool.{Bool, true, false, cond, _&&_}
+use mathlib.Core.List.{List, []}
+use Prim.Native.Nat.{ℕ, _+_, _≤_, _<_}
+use native.Mathlib.Nat.{add-zero}
+use lib.Dec.{ltb, leb}
+use lib.ListN.{length}
+use lib.Seq.{sets}
+use borrow.Author.Tests.{ltb-true, leb-true}
+use Rattle.kinds.specs.Tests.{by-cases, clash, and-left, and-right}
+use Rattle.kinds.specs.declared.record.Lengths.{Lengths}
+use Rattle.lines.specs.Line.{lineOf}
+use Rattle.lines.specs.declared.Line.{Line}
+use Rattle.lines.specs.declared.Line.the-variants.{Size, Set, Request, Bad}
+use Rattle.report.specs.Text.{lineMost}
+use Rattle.session.specs.Lent.{roomFor}
+use Rattle.session.specs.Promise.{RanLine}
+use Rattle.session.specs.Session.{Session, settable, replyTo}
+use Rattle.session.specs.declared.Reply.{Reply}
+use Rattle.session.specs.declared.Reply.the-variants.{Silent, Says, NoRoom}
+use Rattle.replay.specs.Feed.{lastCount, free}
+use Rattle.replay.specs.Promise.{EndedTo, wentBy, closedBy}
+use Rattle.replay.specs.Replay.{textOf, countAfter}
+use Rattle.replay.specs.Stream.{Stream, ended, ending}
+use Rattle.replay.specs.declared.Closed.{Closed}
+
+-- every reply of the definition is one that goes
+replies-go : (s : Session) (l : Line) → wentBy (replyTo s l) ≡ true
+unfolding replyTo
+replies-go s (Size n m r w) = refl
+replies-go s (Set t i v) = by-cases (settable s t i v) (λ h. rw h) (λ h. rw h)
+replies-go s (Request q) = refl
+replies-go s Bad = refl
+
+pub line-fits : (n a l : ℕ) {h : Bool} → h ≡ (ltb n lastCount && leb (a + lineMost) l) → h ≡ true → (a + lineMost ≤ l) × (n < lastCount)
+line-fits n a l asked f =
+    (leb-true _ _ (and-right (ltb n lastCount) _ (sym asked ∙ f)), ltb-true _ _ (and-left _ (leb (a + lineMost) l) (sym asked ∙ f)))
+
+module _ (k : Lengths) (s : Stream) (a : ℕ) (o : List ℕ) {h : Bool} (asked : h ≡ (ltb (s .count) lastCount && leb (a + lineMost) (length o))) where
+  pub ended-full : h ≡ false → EndedTo k s a o false s a o
+  unfolding free
+  ended-full f = record { could = rw (← asked, f); stream = rw (← asked, f); at = rw (← asked, f); out = rw (← asked, f) }
+
+  module _ (f : h ≡ true) {l : Line} (said : l ≡ lineOf (s .pending)) {r : Reply} {t : Session} (ran : RanLine k (s .session) l r t) where
+    -- there is room
+    module _ (b : roomFor l k ≡ true) where
+      goes : free k s a (length o) ≡ true
+      unfolding free
+      goes = rw (← asked, f, ← said, b)
+
+      replied : r ≡ replyTo (s .session) (lineOf (s .pending))
+      replied = ran .replies ∙ rw (b, said)
+
+    -- there is none
+    module _ (b : roomFor l k ≡ false) where
+      stays : free k s a (length o) ≡ false
+      unfolding free
+      stays = rw (← asked, f, ← said, b)
+
+      none : r ≡ NoRoom
+      none = ran .replies ∙ rw b
+
+    module _ {c : Closed} {p : List ℕ} (closed : (c ≡ closedBy a (s .count) r) × (p ≡ sets o a (textOf (s .count) r))) where
+      pub ended-went : c .went ≡ true → EndedTo k s a o true (record { pending = []; count = c .count; session = t }) (c .at) p
+      unfolding ended ending
+      ended-went w =
+          by-cases (roomFor l k)
+          (λ b. record {
+            could = sym (goes b);
+            stream = rw (goes b, closed .0, replied b, ran .leaves, b, said);
+            at = rw (goes b, closed .0, replied b);
+            out = rw (goes b, closed .1, replied b);
+          })
+          (λ b. clash w (ap (λ (x : Closed). x .went) (closed .0) ∙ ap wentBy (none b)))
+
+      pub ended-none : c .went ≡ false → EndedTo k s a o false (record { pending = s .pending; count = s .count; session = t }) a p
+      ended-none w =
+          by-cases (roomFor l k)
+          (λ b. clash (ap (λ (x : Closed). x .went) (closed .0) ∙ ap wentBy (replied b) ∙ replies-go _ _) w)
+          (λ b. record {
+            could = sym (stays b);
+            stream = rw (stays b, ran .leaves, b);
+            at = rw (stays b);
+            out = rw (stays b, closed .1, none b);
+          })

@@ -1,0 +1,3 @@
+pub mod EndLaws
+pub mod Laws
+pub mod TakeLaws

@@ -1,0 +1,59 @@
+-- What the functions of a replay promise.
+--     streamOf p b q e ..     the stream that progress p, the line's bytes b and the lent tables are
+--     FedTo k s a o l ..      of input l, n bytes were taken on stream s, with output o and its end at a: the stream, the end and the output afterwards
+--     EndedTo k s a o ..      the same of the end of a line: whether it could end, and then
+--     TookTo k s a o b ..     the same of one byte b
+--     closedBy a n r          the end of the output and the count of its lines after reply r, and whether the line went
+--     fits b p                a buffer of 128 bytes for the line, and no more of it pending
+-- Assumes nothing.
+use mathlib.Core.Path.{_≡_}
+use mathlib.Core.Bool.{Bool, true, false, cond, not, _&&_}
+use mathlib.Core.List.{List}
+use Prim.Native.Nat.{ℕ, _+_}
+use lib.Dec.{eqb, leb}
+use lib.ListN.{length, take}
+use lib.Seq.{sets}
+use Rattle.kinds.specs.declared.record.Lengths.{Lengths}
+use Rattle.session.specs.Lent.{lent}
+use Rattle.session.specs.declared.Reply.{Reply}
+use Rattle.session.specs.declared.Reply.the-variants.{Silent, Says, NoRoom}
+use Rattle.replay.specs.Feed.{free, stuck, taken}
+use Rattle.replay.specs.Replay.{textOf, countAfter}
+use Rattle.replay.specs.Stream.{Stream, lineKept, ended, ending, fed, said, fedAll, saidAll}
+use Rattle.replay.specs.Whole.{Whole}
+use Rattle.replay.specs.declared.Closed.{Closed}
+use Rattle.replay.specs.declared.Progress.{Progress}
+
+abbrev pub streamOf : Progress → List ℕ → (requesters entries memory peers interrupts windows segments state : List ℕ) → Stream
+streamOf p b q e m v n w g t = record { pending = take (p .pending) b; count = p .count; session = lent (p .extent) q e m v n w g t }
+
+abbrev pub fits : List ℕ → Progress → Bool
+fits b p = eqb (length b) lineKept && leb (p .pending) lineKept
+
+-- a line goes unless the tables have no room for it
+abbrev pub wentBy : Reply → Bool
+wentBy Silent = true
+wentBy (Says x) = true
+wentBy NoRoom = false
+
+abbrev pub closedBy : (a n : ℕ) → Reply → Closed
+closedBy a n r = record { at = a + length (textOf n r); count = countAfter n r; went = wentBy r }
+
+pub record EndedTo (k : Lengths) (s : Stream) (a : ℕ) (o : List ℕ) (went : Bool) (t : Stream) (z : ℕ) (x : List ℕ) : Type 0 where
+  pub could : went ≡ free k s a (length o)
+  pub stream : t ≡ cond (free k s a (length o)) (ended s) s
+  pub at : z ≡ cond (free k s a (length o)) (a + length (ending s)) a
+  pub out : x ≡ cond (free k s a (length o)) (sets o a (ending s)) o
+
+pub record TookTo (k : Lengths) (s : Stream) (a : ℕ) (o : List ℕ) (b : ℕ) (went : Bool) (t : Stream) (z : ℕ) (x : List ℕ) : Type 0 where
+  pub could : stuck k s a (length o) b ≡ not went
+  pub stream : t ≡ cond went (fed s b) s
+  pub at : z ≡ cond went (a + length (said s b)) a
+  pub out : x ≡ cond went (sets o a (said s b)) o
+
+pub record FedTo (k : Lengths) (s : Stream) (a : ℕ) (o l : List ℕ) (n : ℕ) (t : Stream) (z : ℕ) (x : List ℕ) : Type 0 where
+  pub bytes : n ≡ taken k s a (length o) l
+  pub stream : t ≡ fedAll s (take n l)
+  pub at : z ≡ a + length (saidAll s (take n l))
+  pub out : x ≡ sets o a (saidAll s (take n l))
+  pub whole : Whole

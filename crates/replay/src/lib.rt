@@ -1,0 +1,293 @@
+// Replay text in pieces of any length: bytes in, output lines out.
+use kinds::answer::Numbers;
+use lines;
+use report;
+use report::Written;
+use session;
+use session::Extent;
+use session::Reply;
+ghost use mathlib.Core.Path.{_≡_};
+ghost use mathlib.Core.Bool.{_&&_};
+ghost use Prim.Native.Nat.{_+_, _≤_, _<_};
+ghost use lib.Dec.{ltb, leb};
+ghost use lib.ListN.{length};
+ghost use lib.Seq.{sets};
+ghost use Rattle.report.specs.Text.{answerLine, lineMost};
+ghost use Rattle.session.specs.Lent.{lengthsOf};
+ghost use Rattle.replay.specs.Feed.{lastCount};
+ghost use Rattle.replay.specs.Replay.{textOf};
+ghost use Rattle.replay.specs.Stream.{lineKept};
+ghost use Rattle.replay.specs.Promise.{EndedTo, FedTo, TookTo, closedBy, streamOf};
+
+// The bytes of a line that are kept: a longer line is bad, and so are its first bytes.
+pub const LINE_KEPT: usize = 128;
+
+const LINE_FEED: u8 = 10;
+
+// The count of output lines that no line can follow.
+const LAST_COUNT: u64 = 18446744073709551615;
+
+// Where a replay stands between two pieces: the extent of the tables, the bytes kept of the line that has not ended, and the count of output lines.
+pub struct Progress {
+    pub extent: Extent,
+    pub pending: usize,
+    pub count: u64,
+}
+
+// How many bytes of an input were taken, and where the replay stands after them.
+struct Taken {
+    progress: Progress,
+    bytes: usize,
+    at: usize,
+}
+
+// The end of the output and the count of its lines after a reply, and whether the line went.
+struct Closed {
+    at: usize,
+    count: u64,
+    went: bool,
+}
+
+// What became of the end of a line: it went, or there was no room for it and nothing was done.
+struct Ended {
+    progress: Progress,
+    at: usize,
+    went: bool,
+}
+
+// Whether one more output line can be counted, and `length` bytes have room for it from place `at` on.
+fn has_room(count: u64, length: usize, at: usize) -> bool
+    ensures { λ r. ⌜ r ≡ (ltb count lastCount && leb (at + lineMost) length) ⌝ }
+{
+    if LAST_COUNT <= count {
+        return false;
+    }
+    if length < report::LINE_MOST {
+        return false;
+    }
+    at <= length - report::LINE_MOST
+}
+
+// Output line `count` + 1; the place after it.
+fn write_answer(out: &mut [u8], at: usize, count: u64, numbers: Numbers) -> usize
+    requires { ⌜ (at + lineMost ≤ length (now out)) × (count < lastCount) ⌝ }
+    ensures { λ r. ⌜ (r ≡ at + length (answerLine (count + 1) numbers)) × (now (out .exit) ≡ sets (now (out .entry)) at (answerLine (count + 1) numbers)) ⌝ }
+{
+    match report::write_line(out, at, count + 1, numbers) {
+        Written::To(end) => end,
+        Written::NoRoom => at,
+    }
+}
+
+// What a reply writes, if anything.
+fn answer_line(out: &mut [u8], at: usize, count: u64, reply: Reply) -> Closed
+    requires { ⌜ (at + lineMost ≤ length (now out)) × (count < lastCount) ⌝ }
+    ensures { λ r. ⌜ (r ≡ closedBy at count reply) × (now (out .exit) ≡ sets (now (out .entry)) at (textOf count reply)) ⌝ }
+{
+    match reply {
+        Reply::Silent => Closed {
+            at,
+            count,
+            went: true,
+        },
+        Reply::Says(numbers) => {
+            let end = write_answer(out, at, count, numbers);
+            Closed {
+                at: end,
+                count: count + 1,
+                went: true,
+            }
+        }
+        Reply::NoRoom => Closed {
+            at,
+            count,
+            went: false,
+        },
+    }
+}
+
+// The end of a line.
+fn end_line(
+    progress: Progress,
+    requesters: &mut [u16],
+    entries: &mut [u64],
+    memory: &mut [u64],
+    peers: &mut [u64],
+    interrupts: &mut [u64],
+    windows: &mut [u64],
+    segments: &mut [u16],
+    state: &mut [u64],
+    line: &[u8],
+    out: &mut [u8],
+    at: usize,
+) -> Ended
+    requires { ⌜ progress .pending ≤ length (now line) ⌝ }
+    ensures { λ r. ⌜ (EndedTo (lengthsOf (now (requesters .entry)) (now (entries .entry)) (now (memory .entry)) (now (peers .entry)) (now (interrupts .entry)) (now (windows .entry)) (now (segments .entry)) (now (state .entry))) (streamOf progress (now (line .entry)) (now (requesters .entry)) (now (entries .entry)) (now (memory .entry)) (now (peers .entry)) (now (interrupts .entry)) (now (windows .entry)) (now (segments .entry)) (now (state .entry))) at (now (out .entry)) (r .went) (streamOf (r .progress) (now (line .entry)) (now (requesters .exit)) (now (entries .exit)) (now (memory .exit)) (now (peers .exit)) (now (interrupts .exit)) (now (windows .exit)) (now (segments .exit)) (now (state .exit))) (r .at) (now (out .exit))) × (r .progress .pending ≤ progress .pending) ⌝ }
+{
+    let count = progress.count;
+    let pending = progress.pending;
+    if has_room(count, out.len(), at) {
+        let ran = session::run_line(
+            progress.extent,
+            requesters,
+            entries,
+            memory,
+            peers,
+            interrupts,
+            windows,
+            segments,
+            state,
+            lines::parse(&line[..pending]),
+        );
+        let extent = ran.extent;
+        let reply = ran.reply;
+        let closed = answer_line(out, at, count, reply);
+        if closed.went {
+            return Ended {
+                progress: Progress {
+                    extent,
+                    pending: 0,
+                    count: closed.count,
+                },
+                at: closed.at,
+                went: true,
+            };
+        }
+        return Ended {
+            progress: Progress {
+                extent,
+                pending,
+                count,
+            },
+            at,
+            went: false,
+        };
+    }
+    Ended {
+        progress,
+        at,
+        went: false,
+    }
+}
+
+// One more byte kept of the line that has not ended.
+fn longer(progress: Progress) -> Progress
+    requires { ⌜ progress .pending < lineKept ⌝ }
+    ensures { λ r. ⌜ r ≡ record { extent = progress .extent; pending = progress .pending + 1; count = progress .count } ⌝ }
+{
+    let extent = progress.extent;
+    Progress {
+        extent,
+        pending: progress.pending + 1,
+        count: progress.count,
+    }
+}
+
+// One byte of an input.
+fn take_byte(
+    progress: Progress,
+    requesters: &mut [u16],
+    entries: &mut [u64],
+    memory: &mut [u64],
+    peers: &mut [u64],
+    interrupts: &mut [u64],
+    windows: &mut [u64],
+    segments: &mut [u16],
+    state: &mut [u64],
+    line: &mut [u8],
+    out: &mut [u8],
+    at: usize,
+    byte: u8,
+) -> Ended
+    requires { ⌜ (length (now line) ≡ lineKept) × (progress .pending ≤ lineKept) ⌝ }
+    ensures { λ r. ⌜ (TookTo (lengthsOf (now (requesters .entry)) (now (entries .entry)) (now (memory .entry)) (now (peers .entry)) (now (interrupts .entry)) (now (windows .entry)) (now (segments .entry)) (now (state .entry))) (streamOf progress (now (line .entry)) (now (requesters .entry)) (now (entries .entry)) (now (memory .entry)) (now (peers .entry)) (now (interrupts .entry)) (now (windows .entry)) (now (segments .entry)) (now (state .entry))) at (now (out .entry)) byte (r .went) (streamOf (r .progress) (now (line .exit)) (now (requesters .exit)) (now (entries .exit)) (now (memory .exit)) (now (peers .exit)) (now (interrupts .exit)) (now (windows .exit)) (now (segments .exit)) (now (state .exit))) (r .at) (now (out .exit))) × (r .progress .pending ≤ lineKept) ⌝ }
+{
+    if byte == LINE_FEED {
+        return end_line(
+            progress,
+            requesters,
+            entries,
+            memory,
+            peers,
+            interrupts,
+            windows,
+            segments,
+            state,
+            line,
+            out,
+            at,
+        );
+    }
+    let pending = progress.pending;
+    if pending < LINE_KEPT {
+        line[pending] = byte;
+        return Ended {
+            progress: longer(progress),
+            at,
+            went: true,
+        };
+    }
+    Ended {
+        progress,
+        at,
+        went: true,
+    }
+}
+
+// The bytes of an input, up to the first line that cannot end.
+fn take_bytes(
+    progress: Progress,
+    requesters: &mut [u16],
+    entries: &mut [u64],
+    memory: &mut [u64],
+    peers: &mut [u64],
+    interrupts: &mut [u64],
+    windows: &mut [u64],
+    segments: &mut [u16],
+    state: &mut [u64],
+    line: &mut [u8],
+    input: &[u8],
+    out: &mut [u8],
+    at: usize,
+) -> Taken
+    requires { ⌜ (length (now line) ≡ lineKept) × (progress .pending ≤ lineKept) ⌝ }
+    ensures { λ r. ⌜ FedTo (lengthsOf (now (requesters .entry)) (now (entries .entry)) (now (memory .entry)) (now (peers .entry)) (now (interrupts .entry)) (now (windows .entry)) (now (segments .entry)) (now (state .entry))) (streamOf progress (now (line .entry)) (now (requesters .entry)) (now (entries .entry)) (now (memory .entry)) (now (peers .entry)) (now (interrupts .entry)) (now (windows .entry)) (now (segments .entry)) (now (state .entry))) at (now (out .entry)) (now (input .entry)) (r .bytes) (streamOf (r .progress) (now (line .exit)) (now (requesters .exit)) (now (entries .exit)) (now (memory .exit)) (now (peers .exit)) (now (interrupts .exit)) (now (windows .exit)) (now (segments .exit)) (now (state .exit))) (r .at) (now (out .exit)) ⌝ }
+{
+    let mut p = progress;
+    let mut end = at;
+    let mut i = 0;
+    while i < input.len() {
+        let took = take_byte(
+            p,
+            requesters,
+            entries,
+            memory,
+            peers,
+            interrupts,
+            windows,
+            segments,
+            state,
+            line,
+            out,
+            end,
+            input[i],
+        );
+        let next = took.progress;
+        if took.went {
+            p = next;
+            end = took.at;
+            i += 1;
+        } else {
+            return Taken {
+                progress: next,
+                bytes: i,
+                at: took.at,
+            };
+        }
+    }
+    Taken {
+        progress: p,
+        bytes: i,
+        at: end,
+    }
+}
