@@ -1,3 +1,4 @@
 pub mod EndLaws
+pub mod FeedLaws
 pub mod Laws
 pub mod TakeLaws

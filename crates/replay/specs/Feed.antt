@@ -1,11 +1,12 @@
 -- How much of an input is taken, where the lent lists are finite.
 --     free k s a c        whether the line of stream s can end: one more output line can be counted, c bytes of output have room for it from place a on, and
 --                         tables of lengths k have room for what the line asks
+--     closable k s a c    whether the input can end: no line is pending, or it can end
 --     taken k s a c l     how many bytes of l are taken: all up to the first line feed whose line cannot end
 --     Run                 the stream, the place after the output, the output bytes, and the count of bytes taken
 --     run k s a o l       the run of bytes l, from stream s and output o with its end at a
 -- Assumes nothing.
-use mathlib.Core.Bool.{Bool, cond, not, _&&_}
+use mathlib.Core.Bool.{Bool, cond, not, _&&_, _||_}
 use mathlib.Core.List.{List, [], _∷_}
 use Prim.Native.Nat.{ℕ, suc, _+_}
 use lib.Dec.{ltb, leb, eqb}
@@ -27,6 +28,10 @@ free k s a c = ltb (s .count) lastCount && leb (a + lineMost) c && roomFor (line
 
 abbrev pub stuck : Lengths → Stream → (a c b : ℕ) → Bool
 stuck k s a c b = eqb b lineFeed && not (free k s a c)
+
+-- whether the input can end
+unfoldable pub closable : Lengths → Stream → (a c : ℕ) → Bool
+closable k s a c = eqb (length (s .pending)) 0 || free k s a c
 
 unfoldable pub taken : Lengths → Stream → (a c : ℕ) → List ℕ → ℕ
 taken k s a c [] = 0

@@ -4,6 +4,10 @@
 --     EndedTo k s a o ..      the same of the end of a line: whether it could end, and then
 --     TookTo k s a o b ..     the same of one byte b
 --     closedBy a n r          the end of the output and the count of its lines after reply r, and whether the line went
+--     Buffers, buffers        all lent lists; streamIn p b, roomIn b: the stream and the lengths that they are
+--     Started p               progress p is before the first byte, whatever the lent lists hold
+--     FedAs p b a l r c       a piece l was fed: r, and the lent lists afterwards
+--     FinishedAs p b a r c    the input ended
 --     fits b p                a buffer of 128 bytes for the line, and no more of it pending
 -- Assumes nothing.
 use mathlib.Core.Path.{_≡_}
@@ -14,14 +18,18 @@ use lib.Dec.{eqb, leb}
 use lib.ListN.{length, take}
 use lib.Seq.{sets}
 use Rattle.kinds.specs.declared.record.Lengths.{Lengths}
-use Rattle.session.specs.Lent.{lent}
+use Rattle.session.specs.Lent.{lent, lengthsOf}
 use Rattle.session.specs.declared.Reply.{Reply}
 use Rattle.session.specs.declared.Reply.the-variants.{Silent, Says, NoRoom}
-use Rattle.replay.specs.Feed.{free, stuck, taken}
+use Rattle.replay.specs.Feed.{free, stuck, closable, taken}
 use Rattle.replay.specs.Replay.{textOf, countAfter}
-use Rattle.replay.specs.Stream.{Stream, lineKept, ended, ending, fed, said, fedAll, saidAll}
+use Rattle.replay.specs.Stream.{Stream, lineKept, ended, ending, fed, said, fedAll, saidAll, closing, closed, begin}
 use Rattle.replay.specs.Whole.{Whole}
 use Rattle.replay.specs.declared.Closed.{Closed}
+use Rattle.replay.specs.declared.Fed.{Fed}
+use Rattle.replay.specs.declared.Fed.the-variants.{To, Unfit}
+use Rattle.replay.specs.declared.Finished.{Finished}
+use Rattle.replay.specs.declared.Finished.the-variants.{To as FinishedTo, NoRoom as NoRoomLeft, Unfit as UnfitToo}
 use Rattle.replay.specs.declared.Progress.{Progress}
 
 abbrev pub streamOf : Progress → List ℕ → (requesters entries memory peers interrupts windows segments state : List ℕ) → Stream
@@ -57,3 +65,79 @@ pub record FedTo (k : Lengths) (s : Stream) (a : ℕ) (o l : List ℕ) (n : ℕ)
   pub at : z ≡ a + length (saidAll s (take n l))
   pub out : x ≡ sets o a (saidAll s (take n l))
   pub whole : Whole
+
+-- all lent lists
+pub record Buffers : Type 0 where
+  pub requesters : List ℕ
+  pub entries : List ℕ
+  pub memory : List ℕ
+  pub peers : List ℕ
+  pub interrupts : List ℕ
+  pub windows : List ℕ
+  pub segments : List ℕ
+  pub state : List ℕ
+  pub line : List ℕ
+  pub out : List ℕ
+
+abbrev pub buffers : (requesters entries memory peers interrupts windows segments state line out : List ℕ) → Buffers
+buffers q e m p n w g t b o = record {
+  requesters = q;
+  entries = e;
+  memory = m;
+  peers = p;
+  interrupts = n;
+  windows = w;
+  segments = g;
+  state = t;
+  line = b;
+  out = o;
+}
+
+abbrev pub streamIn : Progress → Buffers → Stream
+streamIn p b =
+    streamOf
+    p
+    (b .line)
+    (b .requesters)
+    (b .entries)
+    (b .memory)
+    (b .peers)
+    (b .interrupts)
+    (b .windows)
+    (b .segments)
+    (b .state)
+
+abbrev pub roomIn : Buffers → Lengths
+roomIn b =
+    lengthsOf
+    (b .requesters)
+    (b .entries)
+    (b .memory)
+    (b .peers)
+    (b .interrupts)
+    (b .windows)
+    (b .segments)
+    (b .state)
+
+-- before the first byte, whatever the lent lists hold
+pub record Started (p : Progress) : Type 0 where
+  pub begins : (b : Buffers) → streamIn p b ≡ begin
+  pub whole : Whole
+
+abbrev pub FedAs : Progress → Buffers → ℕ → List ℕ → Fed → Buffers → Type 0
+FedAs p b a l (To q n z) c = (fits (b .line) p ≡ true) × FedTo (roomIn b) (streamIn p b) a (b .out) l n (streamIn q c) z (c .out)
+FedAs p b a l Unfit c = (fits (b .line) p ≡ false) × (c ≡ b)
+
+-- the end of the input where it can be taken
+pub record ClosedTo (s : Stream) (a : ℕ) (o : List ℕ) (t : Stream) (z : ℕ) (x : List ℕ) : Type 0 where
+  pub stream : t ≡ closed s
+  pub at : z ≡ a + length (closing s)
+  pub out : x ≡ sets o a (closing s)
+  pub whole : Whole
+
+abbrev pub FinishedAs : Progress → Buffers → ℕ → Finished → Buffers → Type 0
+FinishedAs p b a (FinishedTo q z) c =
+    (fits (b .line) p ≡ true) × (closable (roomIn b) (streamIn p b) a (length (b .out)) ≡ true) × ClosedTo (streamIn p b) a (b .out) (streamIn q c) z (c .out)
+FinishedAs p b a (NoRoomLeft q) c =
+    (fits (b .line) p ≡ true) × (closable (roomIn b) (streamIn p b) a (length (b .out)) ≡ false) × (streamIn q c ≡ streamIn p b) × (c .out ≡ b .out)
+FinishedAs p b a UnfitToo c = (fits (b .line) p ≡ false) × (c ≡ b)

@@ -4,7 +4,7 @@
 --     ended s             the stream after the end of its line; ending s: what that writes
 --     fed s b             the stream after byte b; said s b: what that writes
 --     fedAll, saidAll     of a list of bytes
---     closing s           what the end of the input writes
+--     closing s           what the end of the input writes; closed s: the stream after it
 --     begin               before the first byte
 -- Assumes nothing.
 use mathlib.Core.Bool.{cond}
@@ -53,6 +53,9 @@ saidAll s (b ∷ l) = said s b ++ saidAll (fed s b) l
 
 unfoldable pub closing : Stream → List ℕ
 closing s = cond (eqb (length (s .pending)) 0) [] (ending s)
+
+unfoldable pub closed : Stream → Stream
+closed s = cond (eqb (length (s .pending)) 0) s (ended s)
 
 abbrev pub begin : Stream
 begin = record { pending = []; count = 0; session = start }

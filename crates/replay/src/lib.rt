@@ -1,5 +1,6 @@
 // Replay text in pieces of any length: bytes in, output lines out.
 use kinds::answer::Numbers;
+use kinds::record::Sizes;
 use lines;
 use report;
 use report::Written;
@@ -17,7 +18,7 @@ ghost use Rattle.session.specs.Lent.{lengthsOf};
 ghost use Rattle.replay.specs.Feed.{lastCount};
 ghost use Rattle.replay.specs.Replay.{textOf};
 ghost use Rattle.replay.specs.Stream.{lineKept};
-ghost use Rattle.replay.specs.Promise.{EndedTo, FedTo, TookTo, closedBy, streamOf};
+ghost use Rattle.replay.specs.Promise.{EndedTo, FedAs, FedTo, FinishedAs, Started, TookTo, buffers, closedBy, streamOf};
 
 // The bytes of a line that are kept: a longer line is bad, and so are its first bytes.
 pub const LINE_KEPT: usize = 128;
@@ -32,6 +33,25 @@ pub struct Progress {
     pub extent: Extent,
     pub pending: usize,
     pub count: u64,
+}
+
+// What became of a piece: so many bytes of it were taken, and the output ends at `at`. Fewer bytes than there are: the next one ends a line, and the
+// output, the count of output lines or the tables have no room for it. Unfit: no buffer of 128 bytes for the line, or more pending than it holds; nothing
+// was done.
+pub enum Fed {
+    To {
+        progress: Progress,
+        bytes: usize,
+        at: usize,
+    },
+    Unfit,
+}
+
+// What became of the end of the input: the output ends at `at`; there was no room for the last line; unfit as above.
+pub enum Finished {
+    To { progress: Progress, at: usize },
+    NoRoom { progress: Progress },
+    Unfit,
 }
 
 // How many bytes of an input were taken, and where the replay stands after them.
@@ -290,4 +310,119 @@ fn take_bytes(
         bytes: i,
         at: end,
     }
+}
+
+// Before the first byte. All lent tables may hold anything.
+pub fn start() -> Progress
+    ensures { λ r. ⌜ Started r ⌝ }
+{
+    Progress {
+        extent: Extent {
+            sizes: Sizes {
+                pes: 0,
+                interrupts: 0,
+                requesters: 0,
+            },
+            memory: 0,
+        },
+        pending: 0,
+        count: 0,
+    }
+}
+
+// A piece of the input.
+pub fn feed(
+    progress: Progress,
+    requesters: &mut [u16],
+    entries: &mut [u64],
+    memory: &mut [u64],
+    peers: &mut [u64],
+    interrupts: &mut [u64],
+    windows: &mut [u64],
+    segments: &mut [u16],
+    state: &mut [u64],
+    line: &mut [u8],
+    input: &[u8],
+    out: &mut [u8],
+    at: usize,
+) -> Fed
+    ensures { λ r. ⌜ FedAs progress (buffers (now (requesters .entry)) (now (entries .entry)) (now (memory .entry)) (now (peers .entry)) (now (interrupts .entry)) (now (windows .entry)) (now (segments .entry)) (now (state .entry)) (now (line .entry)) (now (out .entry))) at (now (input .entry)) r (buffers (now (requesters .exit)) (now (entries .exit)) (now (memory .exit)) (now (peers .exit)) (now (interrupts .exit)) (now (windows .exit)) (now (segments .exit)) (now (state .exit)) (now (line .exit)) (now (out .exit))) ⌝ }
+{
+    if line.len() != LINE_KEPT {
+        return Fed::Unfit;
+    }
+    if LINE_KEPT < progress.pending {
+        return Fed::Unfit;
+    }
+    let taken = take_bytes(
+        progress,
+        requesters,
+        entries,
+        memory,
+        peers,
+        interrupts,
+        windows,
+        segments,
+        state,
+        line,
+        input,
+        out,
+        at,
+    );
+    let next = taken.progress;
+    Fed::To {
+        progress: next,
+        bytes: taken.bytes,
+        at: taken.at,
+    }
+}
+
+// The end of the input: what follows the last line feed is a line if it is not empty.
+pub fn finish(
+    progress: Progress,
+    requesters: &mut [u16],
+    entries: &mut [u64],
+    memory: &mut [u64],
+    peers: &mut [u64],
+    interrupts: &mut [u64],
+    windows: &mut [u64],
+    segments: &mut [u16],
+    state: &mut [u64],
+    line: &[u8],
+    out: &mut [u8],
+    at: usize,
+) -> Finished
+    ensures { λ r. ⌜ FinishedAs progress (buffers (now (requesters .entry)) (now (entries .entry)) (now (memory .entry)) (now (peers .entry)) (now (interrupts .entry)) (now (windows .entry)) (now (segments .entry)) (now (state .entry)) (now (line .entry)) (now (out .entry))) at r (buffers (now (requesters .exit)) (now (entries .exit)) (now (memory .exit)) (now (peers .exit)) (now (interrupts .exit)) (now (windows .exit)) (now (segments .exit)) (now (state .exit)) (now (line .entry)) (now (out .exit))) ⌝ }
+{
+    if line.len() != LINE_KEPT {
+        return Finished::Unfit;
+    }
+    if LINE_KEPT < progress.pending {
+        return Finished::Unfit;
+    }
+    if progress.pending == 0 {
+        return Finished::To { progress, at };
+    }
+    let ended = end_line(
+        progress,
+        requesters,
+        entries,
+        memory,
+        peers,
+        interrupts,
+        windows,
+        segments,
+        state,
+        line,
+        out,
+        at,
+    );
+    let next = ended.progress;
+    if ended.went {
+        return Finished::To {
+            progress: next,
+            at: ended.at,
+        };
+    }
+    Finished::NoRoom { progress: next }
 }

@@ -50,21 +50,22 @@ loop-less c = omega (arith, c .before .before .before .before .before .before .b
 loop-again : tie.Need-loop-again Inv-loop μ-loop
 loop-again c =
     let call = c .before .before .before .before .before .before .before .before .before .before .before .before .before .before .before .before .before .before .before .before .before .before .take-byte in
-    let here = c .before .before .before .before .before .before .before .before .before .before .before .before .before .before .before .before .before .before .before .before .before .before .before .before .before .before .before .before .before .before .before .before .before .before .before .loop .inv in
-    (omega (arith, c .before .before .before .before .before .before .before .before .before .before .before .before .before .before .before .before .before .before .before .before .before .before .before .before .before .before .before .before .before .before .before .before .before .before .loop-test .taken),
-     omega (arith, call .kept, here .1),
-     here .2,
-     call .ensures .1,
-     omega (arith, call .kept, here .4),
-     omega (arith, call .kept, here .5),
-     omega (arith, call .kept, here .6),
-     omega (arith, call .kept, here .7),
-     omega (arith, call .kept, here .8),
-     omega (arith, call .kept, here .9),
-     omega (arith, call .kept, here .10),
-     omega (arith, call .kept, here .11),
-     omega (arith, call .kept, here .12),
-     laws.run-more (here .13) (c .before .before .before .before .before .before .before .before .before .before .before .before .before .before .before .before .before .before .before .before .before .before .before .before .before .before .before .before .before .before .before .before .before .before .loop-test .taken) (laws.lengths-same _ _ _ _ _ _ _ _ (here .5) (here .6) (here .7) (here .8) (here .9) (here .10) (here .11) (here .12)) (call .ensures .0) (c .if1 .taken))
+    let here = c .before .before .before .before .before .before .before .before .before .before .before .before .before .before .before .before .before .before .before .before .before .before .before .before .before .before .before .before .before .before .before .before .before .before .before .loop .inv in (
+      omega (arith, c .before .before .before .before .before .before .before .before .before .before .before .before .before .before .before .before .before .before .before .before .before .before .before .before .before .before .before .before .before .before .before .before .before .before .loop-test .taken),
+      omega (arith, call .kept, here .1),
+      here .2,
+      call .ensures .1,
+      omega (arith, call .kept, here .4),
+      omega (arith, call .kept, here .5),
+      omega (arith, call .kept, here .6),
+      omega (arith, call .kept, here .7),
+      omega (arith, call .kept, here .8),
+      omega (arith, call .kept, here .9),
+      omega (arith, call .kept, here .10),
+      omega (arith, call .kept, here .11),
+      omega (arith, call .kept, here .12),
+      laws.run-more (here .13) (c .before .before .before .before .before .before .before .before .before .before .before .before .before .before .before .before .before .before .before .before .before .before .before .before .before .before .before .before .before .before .before .before .before .before .loop-test .taken) (laws.lengths-same _ _ _ _ _ _ _ _ (here .5) (here .6) (here .7) (here .8) (here .9) (here .10) (here .11) (here .12)) (call .ensures .0) (c .if1 .taken),
+    )
 
 -- src/lib.rt:281:13
 same-length : tie.Need-same-length Inv-loop μ-loop
