@@ -3,43 +3,31 @@ use Rattle.replay.proofs.Laws as laws
 use borrow.Author.Needs.{needs}
 use Rattle.replay.proofs.answer_line.Statement.{statement}
 use Rattle.replay.proofs.answer_line.Tie as tie
-use Rattle.replay.proofs.answer_line.Reads as reads
-use Rattle.replay.proofs.answer_line.Lts as lts
-use Rattle.replay.proofs.write_answer.Reads as write-answer-reads
 
--- src/lib.rt:80:26
 enum-told : tie.Need-enum-told
 enum-told c = search needs
 
--- src/lib.rt:85:21
 enum-known-reply : tie.Need-enum-known-reply
 enum-known-reply c = search needs
 
--- src/lib.rt:86:17
 write-answer-requires : tie.Need-write-answer-requires
 write-answer-requires c κs = search needs
 
--- src/lib.rt:89:24
 add-t10 : tie.Need-add-t10
 add-t10 c = search needs
 
--- src/lib.rt:93:26
 enum-told-2 : tie.Need-enum-told-2
 enum-told-2 c = search needs
 
--- src/lib.rt:75:1
 returns : tie.Need-returns
 returns c = laws.closed-silent _ _ _ _ (c .enum-told .given .1)
 
--- src/lib.rt:75:1
 same-length : tie.Need-same-length
 same-length c = search needs
 
--- src/lib.rt:75:1
 returns-2 : tie.Need-returns-2
 returns-2 c = laws.closed-says _ _ _ _ (c .before .before .before .before .before .reply .given .1) (c .before .before .write-answer .ensures)
 
--- src/lib.rt:75:1
 returns-3 : tie.Need-returns-3
 returns-3 c = laws.closed-none _ _ _ _ (c .enum-told2 .given .1)
 

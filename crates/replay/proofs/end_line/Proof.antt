@@ -6,114 +6,82 @@ use Rattle.replay.proofs.EndLaws as laws
 use borrow.Author.Needs.{needs}
 use Rattle.replay.proofs.end_line.Statement.{statement}
 use Rattle.replay.proofs.end_line.Tie as tie
-use Rattle.replay.proofs.end_line.Reads as reads
-use Rattle.replay.proofs.end_line.Lts as lts
-use Rattle.lines.proofs.parse.Reads as parse-reads
-use Rattle.replay.proofs.answer_line.Reads as answer-line-reads
-use Rattle.replay.proofs.has_room.Reads as has-room-reads
-use Rattle.session.proofs.run_line.Reads as run-line-reads
 
--- src/lib.rt:121:8
 has-room-requires : tie.Need-has-room-requires
 has-room-requires c κs = search needs
 
--- src/lib.rt:132:26
 slice-aggregate-parse : tie.Need-slice-aggregate-parse
 slice-aggregate-parse c = sym (length-take-le _ _ (omega arith))
 
--- src/lib.rt:132:13
 parse-requires : tie.Need-parse-requires
 parse-requires c κs = search needs
 
--- src/lib.rt:122:13
 run-line-requires : tie.Need-run-line-requires
 run-line-requires c κs = search needs
 
--- src/lib.rt:136:13
 answer-line-requires : tie.Need-answer-line-requires
 answer-line-requires c κs = laws.line-fits _ _ _ (c .before .before .before .before .before .before .before .before .before .before .before .before .before .before .before .before .before .before .before .before .before .before .before .before .before .before .before .before .before .before .has-room .ensures) (c .before .before .before .before .before .before .before .before .before .before .before .before .before .before .before .before .before .before .before .before .before .before .before .before .before .before .before .before .before .if1 .taken)
 
--- src/lib.rt:138:13
 same-length : tie.Need-same-length
 same-length c = search needs
 
--- src/lib.rt:138:13
 same-length-2 : tie.Need-same-length-2
 same-length-2 c = search needs
 
--- src/lib.rt:138:13
 same-length-3 : tie.Need-same-length-3
 same-length-3 c = search needs
 
--- src/lib.rt:138:13
 same-length-4 : tie.Need-same-length-4
 same-length-4 c = search needs
 
--- src/lib.rt:138:13
 same-length-5 : tie.Need-same-length-5
 same-length-5 c = search needs
 
--- src/lib.rt:138:13
 same-length-6 : tie.Need-same-length-6
 same-length-6 c = search needs
 
--- src/lib.rt:138:13
 same-length-7 : tie.Need-same-length-7
 same-length-7 c = search needs
 
--- src/lib.rt:138:13
 same-length-8 : tie.Need-same-length-8
 same-length-8 c = search needs
 
--- src/lib.rt:138:13
 same-length-9 : tie.Need-same-length-9
 same-length-9 c = search needs
 
--- src/lib.rt:138:13
 returns : tie.Need-returns
 returns c = (laws.ended-went _ _ _ _ (c .before .before .before .before .before .before .before .before .before .before .before .before .before .before .before .before .before .before .before .before .before .before .before .before .before .before .before .before .before .before .before .before .before .before .has-room .ensures) (c .before .before .before .before .before .before .before .before .before .before .before .before .before .before .before .before .before .before .before .before .before .before .before .before .before .before .before .before .before .before .before .before .before .if1 .taken) (c .before .before .before .before .before .before .before .before .before .before .before .before .before .before .before .before .before .before .before .before .before .before .before .parse .ensures) (c .before .before .before .before .before .before .before .before .before .before .before .before .before .before .before .before .before .before .before .before .before .before .run-line .ensures) (c .before .before .before .answer-line .ensures) (c .if2 .taken), omega arith)
 
--- src/lib.rt:148:9
 same-length-10 : tie.Need-same-length-10
 same-length-10 c = search needs
 
--- src/lib.rt:148:9
 same-length-11 : tie.Need-same-length-11
 same-length-11 c = search needs
 
--- src/lib.rt:148:9
 same-length-12 : tie.Need-same-length-12
 same-length-12 c = search needs
 
--- src/lib.rt:148:9
 same-length-13 : tie.Need-same-length-13
 same-length-13 c = search needs
 
--- src/lib.rt:148:9
 same-length-14 : tie.Need-same-length-14
 same-length-14 c = search needs
 
--- src/lib.rt:148:9
 same-length-15 : tie.Need-same-length-15
 same-length-15 c = search needs
 
--- src/lib.rt:148:9
 same-length-16 : tie.Need-same-length-16
 same-length-16 c = search needs
 
--- src/lib.rt:148:9
 same-length-17 : tie.Need-same-length-17
 same-length-17 c = search needs
 
--- src/lib.rt:148:9
 same-length-18 : tie.Need-same-length-18
 same-length-18 c = search needs
 
--- src/lib.rt:148:9
 returns-2 : tie.Need-returns-2
 returns-2 c = (laws.ended-none _ _ _ _ (c .before .before .before .before .before .before .before .before .before .before .before .before .before .before .before .before .before .before .before .before .before .before .before .before .before .before .before .before .before .before .before .before .before .before .has-room .ensures) (c .before .before .before .before .before .before .before .before .before .before .before .before .before .before .before .before .before .before .before .before .before .before .before .before .before .before .before .before .before .before .before .before .before .if1 .taken) (c .before .before .before .before .before .before .before .before .before .before .before .before .before .before .before .before .before .before .before .before .before .before .before .parse .ensures) (c .before .before .before .before .before .before .before .before .before .before .before .before .before .before .before .before .before .before .before .before .before .before .run-line .ensures) (c .before .before .before .answer-line .ensures) (c .if2 .left), omega arith)
 
--- src/lib.rt:102:1
 returns-3 : tie.Need-returns-3
 returns-3 c = (search laws.ended-full, omega arith)
 

@@ -2,18 +2,13 @@
 use Rattle.replay.proofs.Laws as laws
 use Rattle.replay.proofs.has_room.Statement.{statement}
 use Rattle.replay.proofs.has_room.Tie as tie
-use Rattle.replay.proofs.has_room.Reads as reads
-use Rattle.replay.proofs.has_room.Lts as lts
 
--- src/lib.rt:47:9
 returns : tie.Need-returns
 returns c = search laws.counted-out
 
--- src/lib.rt:50:9
 returns-2 : tie.Need-returns-2
 returns-2 c = search laws.no-line
 
--- src/lib.rt:43:1
 returns-3 : tie.Need-returns-3
 returns-3 c = search laws.line-room
 

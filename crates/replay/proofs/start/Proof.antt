@@ -3,10 +3,7 @@ use mathlib.Core.Path.{refl}
 use Rattle.replay.specs.Whole.{whole}
 use Rattle.replay.proofs.start.Statement.{statement}
 use Rattle.replay.proofs.start.Tie as tie
-use Rattle.replay.proofs.start.Reads as reads
-use Rattle.replay.proofs.start.Lts as lts
 
--- src/lib.rt:316:1
 returns : tie.Need-returns
 returns c = record { begins = λ b. refl; whole = whole }
 

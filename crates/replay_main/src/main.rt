@@ -1,0 +1,173 @@
+// Replays standard input to standard output.
+use replay;
+use replay::Fed;
+use replay::Finished;
+use replay::Progress;
+use report;
+use report::Written;
+
+// The pieces that are read at most, of 4,096 bytes at most each.
+const MOST_PIECES: u64 = 1000000000000;
+
+// Where the replay stands after a piece, and whether there is more.
+struct Turn {
+    progress: Progress,
+    more: bool,
+}
+
+// Writes the first `end` bytes of the output; whether it could.
+fn flush(out: &[u8], end: usize) -> bool {
+    if end <= out.len() {
+        return io::write_all(1, &out[..end]);
+    }
+    false
+}
+
+fn write_header(out: &mut [u8; 356352]) -> bool {
+    match report::write_header(out, 0) {
+        Written::To(end) => flush(out, end),
+        Written::NoRoom => false,
+    }
+}
+
+// Reads a piece, feeds it and writes its answers. The output has room for the lines of 4,096 bytes.
+fn piece(
+    progress: Progress,
+    requesters: &mut [u16; 64],
+    entries: &mut [u64; 128],
+    memory: &mut [u64; 4096],
+    peers: &mut [u64; 64],
+    interrupts: &mut [u64; 256],
+    windows: &mut [u64; 67],
+    segments: &mut [u16; 256],
+    state: &mut [u64; 48],
+    line: &mut [u8; 128],
+    out: &mut [u8; 356352],
+) -> Turn {
+    let mut buffer = io::buffer();
+    let got = libc::read(0, &mut buffer);
+    let n = io::count(got, &buffer);
+    if n == 0 {
+        return Turn {
+            progress,
+            more: false,
+        };
+    }
+    match replay::feed(
+        progress,
+        requesters,
+        entries,
+        memory,
+        peers,
+        interrupts,
+        windows,
+        segments,
+        state,
+        line,
+        &buffer[..n],
+        out,
+        0,
+    ) {
+        Fed::To {
+            progress: next,
+            bytes,
+            at,
+        } => {
+            let written = flush(out, at);
+            Turn {
+                progress: next,
+                more: written,
+            }
+        }
+        Fed::Unfit => Turn {
+            progress,
+            more: false,
+        },
+    }
+}
+
+// The end of the input.
+fn last(
+    progress: Progress,
+    requesters: &mut [u16; 64],
+    entries: &mut [u64; 128],
+    memory: &mut [u64; 4096],
+    peers: &mut [u64; 64],
+    interrupts: &mut [u64; 256],
+    windows: &mut [u64; 67],
+    segments: &mut [u16; 256],
+    state: &mut [u64; 48],
+    line: &[u8; 128],
+    out: &mut [u8; 356352],
+) {
+    match replay::finish(
+        progress,
+        requesters,
+        entries,
+        memory,
+        peers,
+        interrupts,
+        windows,
+        segments,
+        state,
+        line,
+        out,
+        0,
+    ) {
+        Finished::To { progress: _, at } => {
+            flush(out, at);
+        }
+        Finished::NoRoom { progress: _ } => {}
+        Finished::Unfit => {}
+    }
+}
+
+fn main() {
+    let mut requesters = [0u16; 64];
+    let mut entries = [0u64; 128];
+    let mut memory = [0u64; 4096];
+    let mut peers = [0u64; 64];
+    let mut interrupts = [0u64; 256];
+    let mut windows = [0u64; 67];
+    let mut segments = [0u16; 256];
+    let mut state = [0u64; 48];
+    let mut line = [0u8; 128];
+    let mut out = [0u8; 356352];
+    let mut progress = replay::start();
+    write_header(&mut out);
+    let mut pieces = MOST_PIECES;
+    while 0 < pieces {
+        let turn = piece(
+            progress,
+            &mut requesters,
+            &mut entries,
+            &mut memory,
+            &mut peers,
+            &mut interrupts,
+            &mut windows,
+            &mut segments,
+            &mut state,
+            &mut line,
+            &mut out,
+        );
+        progress = turn.progress;
+        if turn.more {
+            pieces -= 1;
+        } else {
+            pieces = 0;
+        }
+    }
+    last(
+        progress,
+        &mut requesters,
+        &mut entries,
+        &mut memory,
+        &mut peers,
+        &mut interrupts,
+        &mut windows,
+        &mut segments,
+        &mut state,
+        &line,
+        &mut out,
+    );
+}
