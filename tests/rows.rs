@@ -1,0 +1,370 @@
+// The rows of the definition's tables of cases as replay text, with the answers that the rows say.
+//
+//     rows SPECS FOLDER
+//
+// SPECS is the folder of the crates. Writes into FOLDER
+//     rows.txt        the text
+//     rows.out        what has to come out, by the rows
+//     rows.lines      the row that each output line is of
+//     rows.unsaid     each row that the text cannot say, and why
+// and prints how many rows there are of each sort.
+//
+// A row of a request becomes a size line, a set line for each word that is not 0, and the request.
+// Then further requests show what the row leaves: both stop bits of every PE, and P and Q of every
+// interrupt that has a word other than 0. Error records, priorities and the bits of a stop word
+// above the lowest two are in no answer, so the text cannot show them.
+// A row that reason 1 answers stands before the first size line: the text has no tables there.
+// A row of `formed` is a request on a bridge that serves it, and a row of `sized` a size line, with
+// the last index of each table and the one after it.
+
+mod definition;
+
+use definition::{Modules, Value};
+use std::env;
+use std::fs;
+use std::path::Path;
+
+const REQUESTERS: &str = "requesters";
+const TRANSLATION: &str = "translation";
+const MEMORY: &str = "memory";
+const PEERS: &str = "peers";
+const INTERRUPTS: &str = "interrupts";
+const WINDOWS: &str = "windows";
+const SEGMENTS: &str = "segments";
+const STATE: &str = "state";
+
+const TOO_LARGE: &str = "larger than the text's limits";
+const NO_SUCH_TABLE: &str = "sizes or lengths that the text cannot lend";
+
+/// The limits of a size line: N, M, R and memory.
+const MOST: [u64; 4] = [16, 64, 64, 4_096];
+
+#[derive(Default)]
+struct Output {
+    text: String,
+    answers: Vec<String>,
+    rows: Vec<String>,
+    /// The row that is being written.
+    row: String,
+}
+
+impl Output {
+    fn line(&mut self, fields: &[&str]) {
+        self.text.push_str(&fields.join("\t"));
+        self.text.push('\n');
+    }
+
+    fn size(&mut self, sizes: [u64; 4]) {
+        let [n, m, r, memory] = sizes.map(|size| format!("{size:x}"));
+        self.line(&["size", &n, &m, &r, &memory]);
+    }
+
+    fn set(&mut self, table: &str, index: usize, value: u64) {
+        self.line(&["set", table, &format!("{index:x}"), &format!("{value:x}")]);
+    }
+
+    fn set_all(&mut self, table: &str, words: &[u64]) {
+        for (index, &word) in words.iter().enumerate().filter(|(_, &word)| word != 0) {
+            self.set(table, index, word);
+        }
+    }
+
+    fn answer(&mut self, name: &str, reason: u64, value: u64, words: u64) {
+        let n = self.answers.len() + 1;
+        self.answers.push(format!("{n}\t{name}\t{reason}\t{value:016x}\t{words}"));
+        self.rows.push(format!("{n}\t{}", self.row));
+    }
+
+    fn refuse(&mut self, reason: u64) {
+        self.answer("refuse", reason, 0, 0);
+    }
+}
+
+// ---- Rows ----
+
+/// A request as a line.
+fn request_fields(request: &Value) -> Vec<String> {
+    let (name, parts) = request.variant();
+    let hex = |value: &Value| format!("{:x}", value.word());
+    let address = |value: &Value| hex(value.field("0"));
+    let mut fields: Vec<String> = match name {
+        "Dma" => {
+            let direction = if parts[1].variant().0 == "Read" { "r" } else { "w" };
+            let [length, data] = [hex(&parts[3]), hex(&parts[4])];
+            vec![hex(&parts[0]), direction.to_string(), address(&parts[2]), length, data]
+        }
+        "Load" | "Store" => vec![address(&parts[0]), hex(&parts[1])],
+        "Error" | "End" => vec![hex(&parts[0])],
+        "Clear" => vec![hex(&parts[0]), parts[1].variant().0.to_lowercase()],
+        "Priority" => vec![hex(&parts[0]), hex(&parts[1])],
+        _ => panic!("no line says {name}"),
+    };
+    let word = if name == "Priority" { "prio".to_string() } else { name.to_lowercase() };
+    fields.insert(0, word);
+    fields
+}
+
+fn write_request(out: &mut Output, request: &Value) {
+    let fields = request_fields(request);
+    out.line(&fields.iter().map(|field| &**field).collect::<Vec<_>>());
+}
+
+/// N, M, R and the length of memory.
+fn sizes_of(sizes: &Value, memory: u64) -> [u64; 4] {
+    let of = |name: &str| sizes.field(name).word();
+    [of("pes"), of("interrupts"), of("requesters"), memory]
+}
+
+fn in_text(sizes: [u64; 4]) -> bool {
+    sizes[0] >= 1 && sizes[2] >= 1 && sizes.iter().zip(MOST).all(|(&size, most)| size <= most)
+}
+
+/// A row of a request. False if the text cannot say it.
+fn case(out: &mut Output, names: &Modules, case: &Value) -> Result<(), &'static str> {
+    let tables = case.field("tables");
+    let memory = case.field("memory").words();
+    let sizes = sizes_of(tables.field("sizes"), memory.len() as u64);
+    if reason_1(case) {
+        write_request(out, case.field("request"));
+        write_answer(out, names, case.field("answer"));
+        return Ok(());
+    }
+    if !in_text(sizes) {
+        return Err(TOO_LARGE);
+    }
+    let live = case.field("live");
+    out.size(sizes);
+    out.set_all(REQUESTERS, &tables.field("requesters").words());
+    out.set_all(TRANSLATION, &tables.field("entries").words());
+    out.set_all(MEMORY, &memory);
+    out.set_all(PEERS, &tables.field("peers").words());
+    out.set_all(INTERRUPTS, &live.field("interrupts").words());
+    out.set_all(WINDOWS, &tables.field("windows").words());
+    out.set_all(SEGMENTS, &tables.field("segments").words());
+    out.set_all(STATE, &live.field("state").words());
+    write_request(out, case.field("request"));
+    write_answer(out, names, case.field("answer"));
+    let left = case.field("left");
+    show_stop_bits(out, &left.field("state").words());
+    show_interrupts(out, &left.field("interrupts").words());
+    Ok(())
+}
+
+fn reason_1(case: &Value) -> bool {
+    let (name, parts) = case.field("answer").variant();
+    name == "Refuse" && parts[0].variant().0 == "TableLength"
+}
+
+/// The answer's line, by the paper's numbers of it.
+fn write_answer(out: &mut Output, names: &Modules, answer: &Value) {
+    let numbers = names.apply(names.value("Answer", "numbered"), answer.clone());
+    let of = |name: &str| numbers.field(name).word();
+    let name = ["pass", "msi", "held", "ones", "drop", "refuse", "done"][of("name") as usize];
+    out.answer(name, of("reason"), of("value"), of("words"));
+}
+
+/// A DMA by bypass and a load by M32, of each PE: 4 or a pass, 11 or a pass.
+fn show_stop_bits(out: &mut Output, state: &[u64]) {
+    for (index, word) in [0, 0x100000, 0].into_iter().enumerate() {
+        out.set(WINDOWS, index, word);
+    }
+    for (pe, words) in state.chunks(3).enumerate() {
+        out.set(REQUESTERS, 0, pe as u64);
+        for (index, word) in [0, 1, 1, 0].into_iter().enumerate() {
+            out.set(TRANSLATION, 8 * pe + index, word);
+        }
+        out.line(&["dma", "0", "r", "0", "1", "0"]);
+        match words[0] & 2 {
+            0 => out.answer("pass", 0, 0, 0),
+            _ => out.refuse(4),
+        }
+        out.set(SEGMENTS, 0, pe as u64);
+        out.line(&["load", "0", "1"]);
+        match words[0] & 1 {
+            0 => out.answer("pass", 0, 0, 0),
+            _ => out.answer("ones", 11, 0xFF, 0),
+        }
+    }
+}
+
+/// A priority set from 255 to 0, which clears Q and presents or holds where Q is set; then an MSI,
+/// which is held where P is set.
+fn show_interrupts(out: &mut Output, interrupts: &[u64]) {
+    for (number, words) in interrupts.chunks(4).enumerate() {
+        if words.iter().all(|&word| word == 0) {
+            continue;
+        }
+        out.set(REQUESTERS, 0, 0);
+        out.set(STATE, 0, 0);
+        for (index, word) in [0, 0, 255].into_iter().enumerate() {
+            out.set(INTERRUPTS, 4 * number + index, word);
+        }
+        out.line(&["prio", &format!("{number:x}"), "0"]);
+        out.line(&["dma", "0", "w", &format!("{:x}", 1 << 60 | number << 4), "4", "0"]);
+        let number = number as u64;
+        match words[3] {
+            0 => {
+                out.answer("done", 0, 0, 0);
+                out.answer("msi", 0, number, 0);
+            }
+            1 => {
+                out.answer("msi", 0, number, 0);
+                out.answer("held", 0, number, 0);
+            }
+            2 => {
+                out.answer("done", 0, 0, 0);
+                out.answer("held", 0, number, 0);
+            }
+            3 => {
+                out.answer("held", 0, number, 0);
+                out.answer("held", 0, number, 0);
+            }
+            _ => {
+                out.refuse(14);
+                out.refuse(9);
+            }
+        }
+    }
+}
+
+/// A row of a limit: `sized` of sizes and lengths, or `formed` of a request.
+fn limit(out: &mut Output, limit: &Value) -> Result<(), &'static str> {
+    let good = limit.field("good").variant().0 == "true";
+    match limit.field("gives").variant() {
+        ("sized", [sizes, lengths]) => sized(out, sizes, lengths, good),
+        ("formed", [request]) => {
+            formed(out, request, good);
+            Ok(())
+        }
+        (name, _) => panic!("a limit of another test: {name}"),
+    }
+}
+
+fn sized(
+    out: &mut Output,
+    sizes: &Value,
+    lengths: &Value,
+    good: bool,
+) -> Result<(), &'static str> {
+    let sizes = sizes_of(sizes, lengths.field("memory").word());
+    if !good {
+        return Err(NO_SUCH_TABLE);
+    }
+    if !in_text(sizes) {
+        return Err(TOO_LARGE);
+    }
+    out.size(sizes);
+    for (table, field) in [
+        (REQUESTERS, "requesters"),
+        (TRANSLATION, "entries"),
+        (MEMORY, "memory"),
+        (PEERS, "peers"),
+        (INTERRUPTS, "interrupts"),
+        (WINDOWS, "windows"),
+        (SEGMENTS, "segments"),
+        (STATE, "state"),
+    ] {
+        let length = lengths.field(field).word() as usize;
+        if length > 0 {
+            out.set(table, length - 1, 1);
+        }
+        out.set(table, length, 1);
+        out.answer("bad", 0, 0, 0);
+    }
+    out.line(&["error", "ffffffffffffffff"]);
+    out.refuse(3);
+    Ok(())
+}
+
+/// On a bridge that serves all that is well formed: requester 5 is PE 2, whose records are both a
+/// bypass of all offsets; M32 is at 0 and M64 window 0 ends at 2^64; interrupt 7 is PE 2's.
+fn formed(out: &mut Output, request: &Value, good: bool) {
+    out.size([4, 8, 8, 0]);
+    out.set(REQUESTERS, 5, 2);
+    for record in [16, 20] {
+        out.set(TRANSLATION, record + 1, 1 << 35);
+        out.set(TRANSLATION, record + 2, 1);
+    }
+    out.set(INTERRUPTS, 28, 2);
+    out.set_all(WINDOWS, &[0, 0x100000, 0, 0xFFFC_0000_0000_0000, 1 << 50, 1, 2]);
+    out.set(SEGMENTS, 0, 2);
+    write_request(out, request);
+    if !good {
+        out.refuse(2);
+        return;
+    }
+    let (name, parts) = request.variant();
+    match name {
+        "Dma" => {
+            let address = parts[2].field("0").word();
+            assert!(!(0xFFFF_0000..=0xFFFF_FFFF).contains(&address), "an MSI");
+            match address >> 60 {
+                0 => out.answer("pass", 0, address & ((1 << 59) - 1), 0),
+                1 => panic!("an MSI"),
+                _ => out.refuse(5),
+            }
+        }
+        "Load" | "Store" => out.answer("pass", 0, parts[0].field("0").word(), 0),
+        "Priority" => {
+            assert!(parts[0].word() == 7, "another interrupt");
+            out.answer("done", 0, 0, 0);
+        }
+        "Error" => {
+            assert!(parts[0].word() >= 8, "a requester of the bridge");
+            out.refuse(3);
+        }
+        _ => {
+            assert!(parts[0].word() >= 8, "a PE or an interrupt of the bridge");
+            out.refuse(14);
+        }
+    }
+}
+
+// ---- All rows ----
+
+fn main() {
+    let arguments: Vec<String> = env::args().skip(1).collect();
+    let [crates, folder] = &arguments[..] else { panic!("usage: rows CRATES FOLDER") };
+    let specs = |name: &str| Path::new(crates).join(name).join("specs");
+    let names = Modules::read(&specs("profile"), &["Cases", "Reasons", "Limits"], |name| {
+        name.ends_with("Case") || name.ends_with("Cases")
+    });
+    let answers = Modules::read(&specs("kinds"), &["Answer"], |_| false);
+
+    let [first, second, limits] = [("Cases", "cases"), ("Reasons", "reasons"), ("Limits", "limits")]
+        .map(|(module, name)| names.value(module, name));
+    let requests = || first.list().iter().chain(second.list());
+    let (before, after): (Vec<&Value>, Vec<&Value>) = requests().partition(|row| reason_1(row));
+
+    let mut out = Output::default();
+    let mut unsaid = Vec::new();
+    let mut said = 0;
+    for row in before.iter().chain(&after).copied().chain(limits.list()) {
+        out.row = row.record().row.clone().expect("a row of a list");
+        let is_limit = row.record().has("gives");
+        let done = if is_limit { limit(&mut out, row) } else { case(&mut out, &answers, row) };
+        match done {
+            Ok(()) => said += 1,
+            Err(why) => unsaid.push(format!("{}: {why}", out.row)),
+        }
+    }
+
+    let write = |name: &str, text: String| {
+        let path = Path::new(folder).join(name);
+        fs::write(&path, text).unwrap_or_else(|error| panic!("{}: {error}", path.display()));
+    };
+    let lines = |lines: &[String]| lines.iter().map(|line| format!("{line}\n")).collect::<String>();
+    write("rows.txt", out.text.clone());
+    write("rows.out", format!("n\tanswer\treason\tvalue\twords\n{}", lines(&out.answers)));
+    write("rows.lines", lines(&out.rows));
+    write("rows.unsaid", lines(&unsaid));
+    println!(
+        "{} rows of cases A to J, {} of the second table, {} of limits: {} as text ({} of them before the first size line), {} that the text cannot say",
+        first.list().len(),
+        second.list().len(),
+        limits.list().len(),
+        said,
+        before.len(),
+        unsaid.len()
+    );
+}
