@@ -240,12 +240,7 @@ fn limit(out: &mut Output, limit: &Value) -> Result<(), &'static str> {
     }
 }
 
-fn sized(
-    out: &mut Output,
-    sizes: &Value,
-    lengths: &Value,
-    good: bool,
-) -> Result<(), &'static str> {
+fn sized(out: &mut Output, sizes: &Value, lengths: &Value, good: bool) -> Result<(), &'static str> {
     let sizes = sizes_of(sizes, lengths.field("memory").word());
     if !good {
         return Err(NO_SUCH_TABLE);
@@ -331,8 +326,9 @@ fn main() {
     });
     let answers = Modules::read(&specs("kinds"), &["Answer"], |_| false);
 
-    let [first, second, limits] = [("Cases", "cases"), ("Reasons", "reasons"), ("Limits", "limits")]
-        .map(|(module, name)| names.value(module, name));
+    let [first, second, limits] =
+        [("Cases", "cases"), ("Reasons", "reasons"), ("Limits", "limits")]
+            .map(|(module, name)| names.value(module, name));
     let requests = || first.list().iter().chain(second.list());
     let (before, after): (Vec<&Value>, Vec<&Value>) = requests().partition(|row| reason_1(row));
 
