@@ -1,8 +1,8 @@
 // The rows of the definition's tables of cases as replay text, with the answers that the rows say.
 //
-//     rows SPECS FOLDER
+//     rows CRATES FOLDER
 //
-// SPECS is the folder of the crates. Writes into FOLDER
+// CRATES is the folder of the crates. Writes into FOLDER
 //     rows.txt        the text
 //     rows.out        what has to come out, by the rows
 //     rows.lines      the row that each output line is of
@@ -119,7 +119,7 @@ fn in_text(sizes: [u64; 4]) -> bool {
     sizes[0] >= 1 && sizes[2] >= 1 && sizes.iter().zip(MOST).all(|(&size, most)| size <= most)
 }
 
-/// A row of a request. False if the text cannot say it.
+/// A row of a request, or why the text cannot say it.
 fn case(out: &mut Output, names: &Modules, case: &Value) -> Result<(), &'static str> {
     let tables = case.field("tables");
     let memory = case.field("memory").words();
@@ -227,7 +227,8 @@ fn show_interrupts(out: &mut Output, interrupts: &[u64]) {
     }
 }
 
-/// A row of a limit: `sized` of sizes and lengths, or `formed` of a request.
+/// A row of a limit, or why the text cannot say it: `sized` of sizes and lengths, or `formed` of a
+/// request.
 fn limit(out: &mut Output, limit: &Value) -> Result<(), &'static str> {
     let good = limit.field("good").variant().0 == "true";
     match limit.field("gives").variant() {
