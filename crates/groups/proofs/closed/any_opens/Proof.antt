@@ -1,0 +1,54 @@
+-- `groups::closed::any_opens` meets its contract. The invariant: none of the numbers passed is found. The measure is how many are left. Assumes nothing.
+use Rattle.groups.specs.Group.{opens}
+use Rattle.groups.specs.Any.{any}
+use Prim.Native.Nat.{_≤_}
+use mathlib.Core.Path.{_≡_}
+use borrow.Author.Needs.{needs}
+use Rattle.groups.proofs.Laws as laws
+use Rattle.groups.proofs.closed.any_opens.Statement.{statement}
+use Rattle.groups.proofs.closed.any_opens.Tie as tie
+
+abbrev Inv-loop : tie.InvT-loop
+Inv-loop group peers pes left₀ left = (left ≤ pes) × (any (pes) (opens group peers) ≡ any left (opens group peers))
+
+abbrev μ-loop : tie.MeasureT-loop
+μ-loop group peers pes left₀ left = left
+
+loop-holds : tie.Need-loop-holds Inv-loop μ-loop
+loop-holds c = search needs
+
+sub-k : tie.Need-sub-k Inv-loop μ-loop
+sub-k c = search needs
+
+opens-requires : tie.Need-opens-requires Inv-loop μ-loop
+opens-requires c κs = search needs
+
+returns : tie.Need-returns Inv-loop μ-loop
+returns c = search laws.loop-found
+
+sub-left : tie.Need-sub-left Inv-loop μ-loop
+sub-left c = search needs
+
+loop-less : tie.Need-loop-less Inv-loop μ-loop
+loop-less c = search needs
+
+loop-again : tie.Need-loop-again Inv-loop μ-loop
+loop-again c = search (needs, laws.loop-next)
+
+returns-2 : tie.Need-returns-2 Inv-loop μ-loop
+returns-2 c = search laws.loop-done
+
+pub any-opens-spec : {M : Type 1} → statement M
+any-opens-spec =
+    tie.close
+    (tie.spec
+    Inv-loop
+    μ-loop
+    loop-holds
+    sub-k
+    opens-requires
+    returns
+    sub-left
+    loop-less
+    loop-again
+    returns-2)

@@ -1,0 +1,58 @@
+-- A group of PEs as a bit vector, whom a request belongs to in numbers, and the test that no PE outside the group lists a member.
+--     memberOf g n        number n is that of a member: below 256, and bit n mod 64 of word n div 64 of g is set
+--     group g             the same as demand 3 has a group: a test of PEs
+--     flag b              a test as a number: 1 or 0
+--     ownerNumber o       the number of the owner, or 65,536, which is no PE's, for nobody
+--     knownOwnerAs f s d  the owner of what the words of a request name; nobody where N is above its limit
+--     lists g v k         PE k is a member and in the vector v; listsAny g v: some PE is
+--     opens g l p         PE p is no member and lists one, l being the peers table; anyOpens g l n: one of the first n PEs
+--     closed n g l        no PE below n outside the group lists a member; n being N, and at most its limit
+-- Assumes nothing.
+use mathlib.Core.Bool.{Bool, true, false, cond, not}
+use mathlib.Core.List.{List}
+use Prim.Native.Nat.{ℕ}
+use lib.Dec.{leb, ltb}
+use Rattle.kinds.specs.Words.{bitOf}
+use Rattle.kinds.specs.declared.answer.Reason.the-variants.{BadRequest}
+use Rattle.kinds.specs.declared.lookup.Owner.{Owner}
+use Rattle.kinds.specs.declared.lookup.Owner.the-variants.{Of, Nobody}
+use Rattle.kinds.specs.declared.number.PeNumber.{PeNumber}
+use Rattle.profile.specs.Freeze.{vectorIn}
+use Rattle.profile.specs.Tables.{Tables, Live, mostPes}
+use Rattle.decision.specs.Promise.{knownOwner}
+use Rattle.bridge.specs.declared.layout.Decoded.{Decoded}
+use Rattle.bridge.specs.declared.layout.Decoded.the-variants.{Named, Unnamed}
+use Rattle.groups.specs.Any.{any}
+
+unfoldable pub memberOf : List ℕ → ℕ → Bool
+memberOf g n = cond (ltb n mostPes) (bitOf g n) false
+
+abbrev pub group : List ℕ → PeNumber → Bool
+group g p = memberOf g (p .0)
+
+unfoldable pub flag : Bool → ℕ
+flag true = 1
+flag false = 0
+
+unfoldable pub ownerNumber : Owner → ℕ
+ownerNumber (Of p) = p .0
+ownerNumber (Nobody r) = 65536
+
+unfoldable pub knownOwnerAs : Tables → Live → Decoded → Owner
+knownOwnerAs f s (Named q) = knownOwner f s q
+knownOwnerAs f s Unnamed = Nobody BadRequest
+
+unfoldable pub lists : (g v : List ℕ) → ℕ → Bool
+lists g v k = cond (memberOf g k) (bitOf v k) false
+
+abbrev pub listsAny : (g v : List ℕ) → Bool
+listsAny g v = any mostPes (lists g v)
+
+unfoldable pub opens : (g peers : List ℕ) → ℕ → Bool
+opens g l p = cond (memberOf g p) false (listsAny g (vectorIn l (record { 0 = p })))
+
+abbrev pub anyOpens : (g peers : List ℕ) → ℕ → Bool
+anyOpens g l n = any n (opens g l)
+
+unfoldable pub closed : ℕ → (g peers : List ℕ) → Bool
+closed n g l = cond (leb n mostPes) (not (anyOpens g l n)) false

@@ -1,0 +1,83 @@
+-- The tests of a group are the premises of demand 3.
+--     flag-one            a test as a number is 1 only where it holds
+--     owner-known         the owner in numbers is the one that `Isolation` asks for, whatever the tables that no owner reads
+--     owned-member        a request belongs to the group where the number of its owner is a member's
+--     closed-is           THE STATEMENT: the test of closedness gives the premise; is-closed: and the premise gives the test
+-- Assumes nothing.
+use mathlib.Core.Path.{_≡_, refl, sym}
+use mathlib.Core.Bool.{Bool, true, false, not}
+use mathlib.Core.List.{List, []}
+use Prim.Native.Nat.{ℕ, _<_, _≤_}
+use native.Mathlib.Omega.{arith}
+use lib.Dec.{leb, ltb}
+use borrow.Author.Tests.{ltb-true, le-leb}
+use Rattle.kinds.specs.Tests.{by-cases, clash}
+use Rattle.kinds.specs.Words.{bitOf}
+use Rattle.kinds.specs.declared.lookup.Owner.{Owner}
+use Rattle.kinds.specs.declared.lookup.Owner.the-variants.{Of, Nobody}
+use Rattle.kinds.specs.declared.number.PeNumber.{PeNumber}
+use Rattle.kinds.specs.declared.record.Sizes.{Sizes}
+use Rattle.profile.specs.Agree.{owned, Closed}
+use Rattle.profile.specs.Freeze.{vectorIn}
+use Rattle.profile.specs.Tables.{Tables, mostPes}
+use Rattle.decision.specs.PromiseLaws.{owner-reads}
+use Rattle.decision.specs.Tables.{tables, live}
+use Rattle.bridge.specs.Run.{ownerAs}
+use Rattle.bridge.specs.declared.layout.Decoded.{Decoded}
+use Rattle.bridge.specs.declared.layout.Decoded.the-variants.{Named, Unnamed}
+use Rattle.groups.specs.Any.{any, any-none, none-any}
+use Rattle.groups.specs.Group.{memberOf, group, flag, ownerNumber, knownOwnerAs, lists, opens, closed}
+
+pub flag-one : (b : Bool) → flag b ≡ 1 → b ≡ true
+unfolding flag
+flag-one true e = refl
+flag-one false e = absurd (omega (arith, e))
+
+pub owner-known : (z : Sizes) (q e v w l t i : List ℕ) (d : Decoded) → z .pes ≤ mostPes
+    → knownOwnerAs (tables z q [] [] w l) (live [] i) d ≡ ownerAs (tables z q e v w l) (live t i) d
+unfolding knownOwnerAs ownerAs
+owner-known z q e v w l t i (Named y) h = rw (le-leb _ _ h) (owner-reads z q e v w l t i y)
+owner-known z q e v w l t i Unnamed h = refl
+
+pub owned-member : (g : List ℕ) (o : Owner) → owned (group g) o ≡ memberOf g (ownerNumber o)
+unfolding ownerNumber memberOf
+owned-member g (Of p) = refl
+owned-member g (Nobody r) = refl
+
+pub member-below : (g : List ℕ) (n : ℕ) → memberOf g n ≡ true → n < mostPes
+unfolding memberOf
+member-below g n h = by-cases (ltb n mostPes) (λ o. ltb-true n mostPes o) (λ o. clash (rw o at h) refl)
+
+pub not-true : (b : Bool) → not b ≡ true → b ≡ false
+not-true true e = sym e
+not-true false e = refl
+
+module _ (g l : List ℕ) where
+  -- a PE outside the group that lists no member
+  opens-not : (p : PeNumber) → memberOf g (p .0) ≡ false → opens g l (p .0) ≡ false → (k : ℕ) → memberOf g k ≡ true → bitOf (vectorIn l p) k ≡ false
+  unfolding opens lists
+  opens-not p o h k u =
+      let none : lists g (vectorIn l p) k ≡ false = any-none mostPes (lists g (vectorIn l p)) (rw o at h) k (member-below g k u) in
+      rw u at none
+
+  not-opens : (p : ℕ) → (memberOf g p ≡ false → (k : ℕ) → memberOf g k ≡ true → bitOf (vectorIn l (record { 0 = p })) k ≡ false) → opens g l p ≡ false
+  unfolding opens lists
+  not-opens p h =
+      by-cases (memberOf g p) (λ o. rw o)
+      (λ o. rw o (none-any mostPes (lists g (vectorIn l (record { 0 = p })))
+      (λ k _. by-cases (memberOf g k) (λ u. rw u (h o k u)) (λ u. rw u))))
+
+pub closed-is : (g : List ℕ) (f : Tables) → closed (f .sizes .pes) g (f .peers) ≡ true → Closed (group g) f
+unfolding closed
+closed-is g f h =
+    by-cases (leb (f .sizes .pes) mostPes)
+    (λ o. let none = not-true (any (f .sizes .pes) (opens g (f .peers))) (rw o at h) in
+    record { unlisted = λ p k b u m. opens-not g (f .peers) p u (any-none (f .sizes .pes) (opens g (f .peers)) none (p .0) b) (k .0) m })
+    (λ o. clash (rw o at h) refl)
+
+pub is-closed : (g : List ℕ) (f : Tables) → f .sizes .pes ≤ mostPes → Closed (group g) f → closed (f .sizes .pes) g (f .peers) ≡ true
+unfolding closed
+is-closed g f h c =
+    let none : any (f .sizes .pes) (opens g (f .peers)) ≡ false =
+    none-any (f .sizes .pes) (opens g (f .peers)) (λ p b. not-opens g (f .peers) p (λ o k m. c .unlisted (record { 0 = p }) (record { 0 = k }) b o m)) in
+    rw (le-leb _ _ h, none)

@@ -1,0 +1,118 @@
+-- Two bridges that agree in the words that are public or the group's meet the premises of demand 3, and a run of each answers the group alike.
+--     tableOf a n         table n of bridge a
+--     Shown g t a b       sizes and lengths are equal, and every word that is seen in the first bridge, t being the marks of its memory
+--     viewed              with marks that miss nothing, `Shown` gives `View`: what demand 3 asks of two bridges
+--     isolated-run        THE STATEMENT: what `closed`, `anyMisses` and `seen` test, and own requests that are equal, give equal answers
+-- Assumes nothing.
+use mathlib.Core.Path.{_≡_, refl, ap}
+use mathlib.Core.Bool.{true, false}
+use mathlib.Core.List.{List, []}
+use Prim.Native.Nat.{ℕ, zero, suc, _+_, _*_, _/_, _%_, _<_}
+use native.Mathlib.Nat.{add-zero}
+use native.Mathlib.Omega.{arith}
+use lib.Dec.{eqb}
+use lib.Seq.{ext-getD}
+use borrow.Author.Tests.{eq-eqb}
+use Rattle.kinds.specs.Tests.{by-cases}
+use Rattle.kinds.specs.Words.{at}
+use Rattle.kinds.specs.declared.number.PeNumber.{PeNumber}
+use Rattle.kinds.specs.declared.record.Lengths.{Lengths}
+use Rattle.profile.specs.Entry.{entry}
+use Rattle.profile.specs.Msi.{interrupt}
+use Rattle.profile.specs.Tables.{entryWords, recordWords, interruptWords, stateWords}
+use Rattle.isolation.specs.View.{Bridge, lengthsOf, Public, Written, View}
+use Rattle.bridge.specs.Run.{served, ranTo}
+use Rattle.bridge.specs.RunIsolation.{ownRequests, ownAnswers, run-isolation}
+use Rattle.groups.specs.Group.{memberOf, group, closed}
+use Rattle.groups.specs.GroupLaws.{closed-is}
+use Rattle.groups.specs.Marks.{anyMisses}
+use Rattle.groups.specs.MarksLaws.{reads-marked}
+use Rattle.groups.specs.Seen.{interruptSeen, seen}
+
+abbrev pub tableOf : Bridge → ℕ → List ℕ
+tableOf a zero = a .tables .requesters
+tableOf a (suc zero) = a .tables .entries
+tableOf a (suc (suc zero)) = a .memory
+tableOf a (suc (suc (suc zero))) = a .tables .peers
+tableOf a (suc (suc (suc (suc zero)))) = a .live .interrupts
+tableOf a (suc (suc (suc (suc (suc zero))))) = a .tables .windows
+tableOf a (suc (suc (suc (suc (suc (suc zero)))))) = a .tables .segments
+tableOf a (suc (suc (suc (suc (suc (suc (suc zero))))))) = a .live .state
+tableOf a (suc (suc (suc (suc (suc (suc (suc (suc n)))))))) = []
+
+pub record Shown (g t : List ℕ) (a b : Bridge) : Type 0 where
+  pub sizes : a .tables .sizes ≡ b .tables .sizes
+  pub all-lengths : lengthsOf a ≡ lengthsOf b
+  pub words : (n i : ℕ) → seen g (a .live .interrupts) t n i ≡ true → at (tableOf a n) i ≡ at (tableOf b n) i
+
+module _ (g t : List ℕ) (a b : Bridge) (s : Shown g t a b) where
+  same-length : (P : Lengths → ℕ) → P (lengthsOf a) ≡ P (lengthsOf b)
+  same-length P = ap P (s .all-lengths)
+
+  -- the word of an interrupt that is its PE, and one whose PE is a member
+  pe-word : (i : ℕ) → at (a .live .interrupts) (i * interruptWords) ≡ at (b .live .interrupts) (i * interruptWords)
+  unfolding seen interruptSeen
+  pe-word i = s .words 4 (i * interruptWords) (rw (eq-eqb (i * interruptWords % interruptWords) 0 (omega arith)))
+
+  interrupt-word : (i : ℕ) → memberOf g (at (a .live .interrupts) (i * interruptWords)) ≡ true → (j : ℕ) → j < interruptWords
+      → at (a .live .interrupts) (i * interruptWords + j) ≡ at (b .live .interrupts) (i * interruptWords + j)
+  unfolding seen interruptSeen
+  interrupt-word i m j h =
+      let e : (i * interruptWords + j) / interruptWords * interruptWords ≡ i * interruptWords = omega arith in
+      s .words 4 (i * interruptWords + j) (by-cases (eqb ((i * interruptWords + j) % interruptWords) 0) (λ o. rw o) (λ o. rw (o, e) m))
+
+  state-word : (p : PeNumber) → group g p ≡ true → (j : ℕ) → j < stateWords
+      → at (a .live .state) (p .0 * stateWords + j) ≡ at (b .live .state) (p .0 * stateWords + j)
+  unfolding seen
+  state-word p m j h = let e : (p .0 * stateWords + j) / stateWords ≡ p .0 = omega arith in s .words 7 (p .0 * stateWords + j) (rw e m)
+
+  entry-word : (p : PeNumber) → group g p ≡ true → (j : ℕ) → j < entryWords
+      → at (a .tables .entries) (p .0 * entryWords + j) ≡ at (b .tables .entries) (p .0 * entryWords + j)
+  unfolding seen
+  entry-word p m j h = let e : (p .0 * entryWords + j) / entryWords ≡ p .0 = omega arith in s .words 1 (p .0 * entryWords + j) (rw e m)
+
+  public-same : Public a b
+  unfolding seen
+  public-same = record {
+    sizes = s .sizes;
+    all-lengths = s .all-lengths;
+    requesters = ext-getD 0 _ _ (same-length (λ x. x .requesters)) (λ i h. s .words 0 i refl);
+    peers = ext-getD 0 _ _ (same-length (λ x. x .peers)) (λ i h. s .words 3 i refl);
+    windows = ext-getD 0 _ _ (same-length (λ x. x .windows)) (λ i h. s .words 5 i refl);
+    segments = ext-getD 0 _ _ (same-length (λ x. x .segments)) (λ i h. s .words 6 i refl);
+    interrupt-pe = λ i h. pe-word i;
+  }
+
+  written-same : Written (group g) (a .tables .sizes .interrupts) (a .live) (b .live)
+  written-same = record {
+    stop-bits = λ p m. ap (λ (x : ℕ). x % 4) (rw add-zero at (state-word p m 0 (omega arith)));
+    reason = λ p m. state-word p m 1 (omega arith);
+    value = λ p m. state-word p m 2 (omega arith);
+    interrupts = λ i h m. rw (pe-word i, interrupt-word i m 1 (omega arith), interrupt-word i m 2 (omega arith), interrupt-word i m 3 (omega arith));
+  }
+
+  entries-same : (p : PeNumber) → group g p ≡ true → (h : ℕ) → h < 2 → entry (a .tables) p h ≡ entry (b .tables) p h
+  entries-same p m h k = rw (
+    entry-word p m (h * recordWords) (omega arith),
+    entry-word p m (h * recordWords + 1) (omega arith),
+    entry-word p m (h * recordWords + 2) (omega arith),
+    entry-word p m (h * recordWords + 3) (omega arith),
+  )
+
+  pub viewed : anyMisses g (a .tables .entries) (a .memory) t ≡ false → View (group g) a b
+  unfolding seen
+  viewed none = record {
+    public = public-same;
+    written = written-same;
+    entries = entries-same;
+    table-words = λ k r. s .words 2 k (reads-marked g t (a .tables) (a .memory) none k r);
+  }
+
+pub isolated-run : (g t : List ℕ) (a b : Bridge)
+    -- what `celltimber_closed`, `celltimber_covers` and `celltimber_seen` tell
+    → closed (a .tables .sizes .pes) g (a .tables .peers) ≡ true → anyMisses g (a .tables .entries) (a .memory) t ≡ false → Shown g t a b
+    -- request words w on the first bridge and v on the second, with answer words l and k
+    → (w v l k : List ℕ) → ownRequests (group g) a w (served w l) ≡ ownRequests (group g) b v (served v k)
+    → ownAnswers (group g) a w (ranTo (a .tables) (a .memory) w (a .live) l (served w l) .answers) (served w l)
+    ≡ ownAnswers (group g) b v (ranTo (b .tables) (b .memory) v (b .live) k (served v k) .answers) (served v k)
+isolated-run g t a b c none s w v l k e = run-isolation .isolated (group g) a b (closed-is g (a .tables) c) (viewed g t a b s none) w v l k e .0

@@ -1,0 +1,65 @@
+// Which table words are public or the group's. Tables are numbered from 0 in the order of document 01.
+use crate::member;
+use kinds::words;
+ghost use mathlib.Core.Path.{_≡_};
+ghost use Rattle.groups.specs.Seen.{interruptSeen, anyMark, seen};
+
+const ENTRIES: u64 = 1;
+
+const MEMORY: u64 = 2;
+
+const INTERRUPTS: u64 = 4;
+
+const STATE: u64 = 7;
+
+// The words of a PE's translation entries, of an interrupt and of a PE's state.
+const ENTRY_WORDS: u64 = 8;
+
+const INTERRUPT_WORDS: usize = 4;
+
+const STATE_WORDS: u64 = 3;
+
+// The PE word of an interrupt is public, the other words are its PE's.
+fn interrupt_seen(group: &[u64], interrupts: &[u64], index: usize) -> bool
+    ensures { λ r. ⌜ r ≡ interruptSeen (now (group .entry)) (now (interrupts .entry)) index ⌝ }
+{
+    if index % INTERRUPT_WORDS == 0 {
+        return true;
+    }
+    let pe = words::word(interrupts, index / INTERRUPT_WORDS * INTERRUPT_WORDS);
+    member::is_member(group, pe)
+}
+
+fn is_marked(marks: &[u64], index: usize) -> bool
+    ensures { λ r. ⌜ r ≡ anyMark (now (marks .entry)) index ⌝ }
+{
+    let bits = words::word(marks, index);
+    if bits == 0 {
+        return false;
+    }
+    true
+}
+
+pub(crate) fn is_seen(
+    group: &[u64],
+    interrupts: &[u64],
+    marks: &[u64],
+    table: u64,
+    index: usize,
+) -> bool
+    ensures { λ r. ⌜ r ≡ seen (now (group .entry)) (now (interrupts .entry)) (now (marks .entry)) table index ⌝ }
+{
+    if table == ENTRIES {
+        return member::is_member(group, index as u64 / ENTRY_WORDS);
+    }
+    if table == MEMORY {
+        return is_marked(marks, index);
+    }
+    if table == INTERRUPTS {
+        return interrupt_seen(group, interrupts, index);
+    }
+    if table == STATE {
+        return member::is_member(group, index as u64 / STATE_WORDS);
+    }
+    true
+}
