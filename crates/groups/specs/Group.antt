@@ -1,6 +1,4 @@
--- A group of PEs as a bit vector, whom a request belongs to in numbers, and the test that no PE outside the group lists a member.
---     memberOf g n        number n is that of a member: below 256, and bit n mod 64 of word n div 64 of g is set
---     group g             the same as demand 3 has a group: a test of PEs
+-- Whom a request belongs to, in numbers, and the test that no PE outside the group lists a member.
 --     flag b              a test as a number: 1 or 0
 --     ownerNumber o       the number of the owner, or 65,536, which is no PE's, for nobody
 --     knownOwnerAs f s d  the owner of what the words of a request name; nobody where N is above its limit
@@ -11,24 +9,18 @@
 use mathlib.Core.Bool.{Bool, true, false, cond, not}
 use mathlib.Core.List.{List}
 use Prim.Native.Nat.{ℕ}
-use lib.Dec.{leb, ltb}
+use lib.Dec.{leb}
 use Rattle.kinds.specs.Words.{bitOf}
 use Rattle.kinds.specs.declared.answer.Reason.the-variants.{BadRequest}
 use Rattle.kinds.specs.declared.lookup.Owner.{Owner}
 use Rattle.kinds.specs.declared.lookup.Owner.the-variants.{Of, Nobody}
-use Rattle.kinds.specs.declared.number.PeNumber.{PeNumber}
 use Rattle.profile.specs.Freeze.{vectorIn}
 use Rattle.profile.specs.Tables.{Tables, Live, mostPes}
 use Rattle.decision.specs.Promise.{knownOwner}
 use Rattle.bridge.specs.declared.layout.Decoded.{Decoded}
 use Rattle.bridge.specs.declared.layout.Decoded.the-variants.{Named, Unnamed}
-use Rattle.groups.specs.Any.{any}
-
-unfoldable pub memberOf : List ℕ → ℕ → Bool
-memberOf g n = cond (ltb n mostPes) (bitOf g n) false
-
-abbrev pub group : List ℕ → PeNumber → Bool
-group g p = memberOf g (p .0)
+use Rattle.footprint.specs.Any.{any}
+use Rattle.footprint.specs.Member.{memberOf}
 
 unfoldable pub flag : Bool → ℕ
 flag true = 1

@@ -4,13 +4,13 @@
 --     owned-member        a request belongs to the group where the number of its owner is a member's
 --     closed-is           THE STATEMENT: the test of closedness gives the premise; is-closed: and the premise gives the test
 -- Assumes nothing.
-use mathlib.Core.Path.{_≡_, refl, sym}
-use mathlib.Core.Bool.{Bool, true, false, not}
+use mathlib.Core.Path.{_≡_, refl}
+use mathlib.Core.Bool.{Bool, true, false}
 use mathlib.Core.List.{List, []}
-use Prim.Native.Nat.{ℕ, _<_, _≤_}
+use Prim.Native.Nat.{ℕ, _≤_}
 use native.Mathlib.Omega.{arith}
-use lib.Dec.{leb, ltb}
-use borrow.Author.Tests.{ltb-true, le-leb}
+use lib.Dec.{leb}
+use borrow.Author.Tests.{le-leb}
 use Rattle.kinds.specs.Tests.{by-cases, clash}
 use Rattle.kinds.specs.Words.{bitOf}
 use Rattle.kinds.specs.declared.lookup.Owner.{Owner}
@@ -25,8 +25,9 @@ use Rattle.decision.specs.Tables.{tables, live}
 use Rattle.bridge.specs.Run.{ownerAs}
 use Rattle.bridge.specs.declared.layout.Decoded.{Decoded}
 use Rattle.bridge.specs.declared.layout.Decoded.the-variants.{Named, Unnamed}
-use Rattle.groups.specs.Any.{any, any-none, none-any}
-use Rattle.groups.specs.Group.{memberOf, group, flag, ownerNumber, knownOwnerAs, lists, opens, closed}
+use Rattle.footprint.specs.Any.{any, any-none, none-any}
+use Rattle.footprint.specs.Member.{memberOf, group, member-below, not-true}
+use Rattle.groups.specs.Group.{flag, ownerNumber, knownOwnerAs, lists, opens, closed}
 
 pub flag-one : (b : Bool) → flag b ≡ 1 → b ≡ true
 unfolding flag
@@ -43,14 +44,6 @@ pub owned-member : (g : List ℕ) (o : Owner) → owned (group g) o ≡ memberOf
 unfolding ownerNumber memberOf
 owned-member g (Of p) = refl
 owned-member g (Nobody r) = refl
-
-pub member-below : (g : List ℕ) (n : ℕ) → memberOf g n ≡ true → n < mostPes
-unfolding memberOf
-member-below g n h = by-cases (ltb n mostPes) (λ o. ltb-true n mostPes o) (λ o. clash (rw o at h) refl)
-
-pub not-true : (b : Bool) → not b ≡ true → b ≡ false
-not-true true e = sym e
-not-true false e = refl
 
 module _ (g l : List ℕ) where
   -- a PE outside the group that lists no member

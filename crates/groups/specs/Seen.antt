@@ -1,21 +1,18 @@
 -- The table words that are public or the group's. The tables are numbered from 0 in the order of 01's list.
 --     interruptSeen g l i     of word i of the interrupts l: the PE word of each interrupt is public, the others are its PE's
---     anyMark t i             memory word i has a mark
 --     seen g l t n i          word i of table n is public or the group's, t being the marks of memory
 -- Assumes nothing.
-use mathlib.Core.Bool.{Bool, true, cond, not}
+use mathlib.Core.Bool.{Bool, true, cond}
 use mathlib.Core.List.{List}
 use Prim.Native.Nat.{ℕ, _*_, _/_, _%_}
 use lib.Dec.{eqb}
 use Rattle.kinds.specs.Words.{at}
 use Rattle.profile.specs.Tables.{entryWords, interruptWords, stateWords}
-use Rattle.groups.specs.Group.{memberOf}
+use Rattle.footprint.specs.Marks.{anyMark}
+use Rattle.footprint.specs.Member.{memberOf}
 
 unfoldable pub interruptSeen : (g interrupts : List ℕ) → ℕ → Bool
 interruptSeen g l i = cond (eqb (i % interruptWords) 0) true (memberOf g (at l (i / interruptWords * interruptWords)))
-
-unfoldable pub anyMark : List ℕ → ℕ → Bool
-anyMark t i = not (eqb (at t i) 0)
 
 unfoldable pub seen : (g interrupts marks : List ℕ) → (table index : ℕ) → Bool
 seen g l t n i =

@@ -23,10 +23,11 @@ use Rattle.profile.specs.Tables.{entryWords, recordWords, interruptWords, state
 use Rattle.isolation.specs.View.{Bridge, lengthsOf, Public, Written, View}
 use Rattle.bridge.specs.Run.{served, ranTo}
 use Rattle.bridge.specs.RunIsolation.{ownRequests, ownAnswers, run-isolation}
-use Rattle.groups.specs.Group.{memberOf, group, closed}
+use Rattle.footprint.specs.Member.{memberOf, group}
+use Rattle.groups.specs.Group.{closed}
 use Rattle.groups.specs.GroupLaws.{closed-is}
-use Rattle.groups.specs.Marks.{anyMisses}
-use Rattle.groups.specs.MarksLaws.{reads-marked}
+use Rattle.footprint.specs.Marks.{anyMisses}
+use Rattle.footprint.specs.MarksLaws.{reads-marked}
 use Rattle.groups.specs.Seen.{interruptSeen, seen}
 
 abbrev pub tableOf : Bridge → ℕ → List ℕ

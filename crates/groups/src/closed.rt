@@ -1,6 +1,7 @@
 // Whether a PE outside the group lists a member in its peer vector.
-use crate::member;
+
 use endpoints;
+use footprint::member;
 use kinds::number::PeNumber;
 ghost use mathlib.Core.Path.{_≡_};
 ghost use Prim.Native.Nat.{_<_, _≤_};

@@ -1,8 +1,9 @@
 // Which table words are public or the group's. Tables are numbered from 0 in the order of document 01.
-use crate::member;
+use footprint::marks;
+use footprint::member;
 use kinds::words;
 ghost use mathlib.Core.Path.{_≡_};
-ghost use Rattle.groups.specs.Seen.{interruptSeen, anyMark, seen};
+ghost use Rattle.groups.specs.Seen.{interruptSeen, seen};
 
 const ENTRIES: u64 = 1;
 
@@ -30,16 +31,6 @@ fn interrupt_seen(group: &[u64], interrupts: &[u64], index: usize) -> bool
     member::is_member(group, pe)
 }
 
-fn is_marked(marks: &[u64], index: usize) -> bool
-    ensures { λ r. ⌜ r ≡ anyMark (now (marks .entry)) index ⌝ }
-{
-    let bits = words::word(marks, index);
-    if bits == 0 {
-        return false;
-    }
-    true
-}
-
 pub(crate) fn is_seen(
     group: &[u64],
     interrupts: &[u64],
@@ -53,7 +44,7 @@ pub(crate) fn is_seen(
         return member::is_member(group, index as u64 / ENTRY_WORDS);
     }
     if table == MEMORY {
-        return is_marked(marks, index);
+        return marks::has_mark(marks, index);
     }
     if table == INTERRUPTS {
         return interrupt_seen(group, interrupts, index);

@@ -1,15 +1,14 @@
 -- `groups::closed::any_opens` meets its contract. The invariant: none of the numbers passed is found. The measure is how many are left. Assumes nothing.
 use Rattle.groups.specs.Group.{opens}
-use Rattle.groups.specs.Any.{any}
+use Rattle.footprint.specs.Any.{any, any-found, any-next, any-done}
 use Prim.Native.Nat.{_≤_}
 use mathlib.Core.Path.{_≡_}
 use borrow.Author.Needs.{needs}
-use Rattle.groups.proofs.Laws as laws
 use Rattle.groups.proofs.closed.any_opens.Statement.{statement}
 use Rattle.groups.proofs.closed.any_opens.Tie as tie
 
 abbrev Inv-loop : tie.InvT-loop
-Inv-loop group peers pes left₀ left = (left ≤ pes) × (any (pes) (opens group peers) ≡ any left (opens group peers))
+Inv-loop group peers pes left₀ left = (left ≤ pes) × (any pes (opens group peers) ≡ any left (opens group peers))
 
 abbrev μ-loop : tie.MeasureT-loop
 μ-loop group peers pes left₀ left = left
@@ -24,7 +23,7 @@ opens-requires : tie.Need-opens-requires Inv-loop μ-loop
 opens-requires c κs = search needs
 
 returns : tie.Need-returns Inv-loop μ-loop
-returns c = search laws.loop-found
+returns c = search any-found
 
 sub-left : tie.Need-sub-left Inv-loop μ-loop
 sub-left c = search needs
@@ -33,10 +32,10 @@ loop-less : tie.Need-loop-less Inv-loop μ-loop
 loop-less c = search needs
 
 loop-again : tie.Need-loop-again Inv-loop μ-loop
-loop-again c = search (needs, laws.loop-next)
+loop-again c = search (needs, any-next)
 
 returns-2 : tie.Need-returns-2 Inv-loop μ-loop
-returns-2 c = search laws.loop-done
+returns-2 c = search any-done
 
 pub any-opens-spec : {M : Type 1} → statement M
 any-opens-spec =

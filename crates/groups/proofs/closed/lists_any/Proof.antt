@@ -1,15 +1,14 @@
 -- `groups::closed::lists_any` meets its contract. The invariant: none of the numbers passed is found. The measure is how many are left. Assumes nothing.
 use Rattle.groups.specs.Group.{lists}
-use Rattle.groups.specs.Any.{any}
+use Rattle.footprint.specs.Any.{any, any-found, any-next, any-done}
 use Prim.Native.Nat.{_≤_}
 use mathlib.Core.Path.{_≡_}
 use borrow.Author.Needs.{needs}
-use Rattle.groups.proofs.Laws as laws
 use Rattle.groups.proofs.closed.lists_any.Statement.{statement}
 use Rattle.groups.proofs.closed.lists_any.Tie as tie
 
 abbrev Inv-loop : tie.InvT-loop
-Inv-loop group vector left₀ left = (left ≤ 256) × (any (256) (lists group vector) ≡ any left (lists group vector))
+Inv-loop group vector left₀ left = (left ≤ 256) × (any 256 (lists group vector) ≡ any left (lists group vector))
 
 abbrev μ-loop : tie.MeasureT-loop
 μ-loop group vector left₀ left = left
@@ -24,7 +23,7 @@ lists-requires : tie.Need-lists-requires Inv-loop μ-loop
 lists-requires c κs = search needs
 
 returns : tie.Need-returns Inv-loop μ-loop
-returns c = search laws.loop-found
+returns c = search any-found
 
 sub-left : tie.Need-sub-left Inv-loop μ-loop
 sub-left c = search needs
@@ -33,10 +32,10 @@ loop-less : tie.Need-loop-less Inv-loop μ-loop
 loop-less c = search needs
 
 loop-again : tie.Need-loop-again Inv-loop μ-loop
-loop-again c = search (needs, laws.loop-next)
+loop-again c = search (needs, any-next)
 
 returns-2 : tie.Need-returns-2 Inv-loop μ-loop
-returns-2 c = search laws.loop-done
+returns-2 c = search any-done
 
 pub lists-any-spec : {M : Type 1} → statement M
 lists-any-spec =

@@ -12,8 +12,8 @@ returns : tie.Need-returns
 unfolding seen
 returns c = search tests
 
-is-marked-requires : tie.Need-is-marked-requires
-is-marked-requires c κs = search needs
+has-mark-requires : tie.Need-has-mark-requires
+has-mark-requires c κs = search needs
 
 returns-2 : tie.Need-returns-2
 unfolding seen
@@ -43,7 +43,7 @@ is-seen-spec =
     (tie.spec
     is-member-requires
     returns
-    is-marked-requires
+    has-mark-requires
     returns-2
     interrupt-seen-requires
     returns-3

@@ -1,0 +1,4 @@
+pub mod Any
+pub mod Marks
+pub mod MarksLaws
+pub mod Member
