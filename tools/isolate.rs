@@ -247,14 +247,16 @@ fn read(name: &str) -> Result<File, String> {
         let text = String::from_utf8_lossy(line).replace('\t', " ");
         match replay::parse(line) {
             None => continue,
-            Some(Line::Size { n, m, r, memory_words }) => match Tables::sized(n, m, r, memory_words) {
-                None => continue,
-                Some(sized) => {
-                    tables = sized;
-                    sets.clear();
-                    size = Some((number, text));
+            Some(Line::Size { n, m, r, memory_words }) => {
+                match Tables::sized(n, m, r, memory_words) {
+                    None => continue,
+                    Some(sized) => {
+                        tables = sized;
+                        sets.clear();
+                        size = Some((number, text));
+                    }
                 }
-            },
+            }
             Some(Line::Set { table, index, value }) => {
                 let index = usize::try_from(index).unwrap_or(usize::MAX);
                 if size.is_none() || !tables.set(table, index, value) {
@@ -363,7 +365,11 @@ fn mark(marks: &mut [u64], bits: u64, below: u64, first: u64) {
 }
 
 /// The set lines of both files that `counts` picks have to be the same, in the same order.
-fn same_sets(what: &str, files: &[File; 2], counts: impl Fn(&SetLine) -> bool) -> Result<(), String> {
+fn same_sets(
+    what: &str,
+    files: &[File; 2],
+    counts: impl Fn(&SetLine) -> bool,
+) -> Result<(), String> {
     let [a, b] = files;
     let picked = |file: &'_ File| {
         let lines = file.sets.iter().enumerate().filter(|(_, line)| counts(line));
@@ -386,7 +392,7 @@ fn same_sets(what: &str, files: &[File; 2], counts: impl Fn(&SetLine) -> bool) -
 
 fn place(file: &File, line: Option<(usize, &str)>) -> String {
     match line {
-        None => format!("{} has no such line more", file.name),
+        None => format!("{} has no further one", file.name),
         Some((number, text)) => format!("{} has '{}' in line {}", file.name, text, number),
     }
 }
@@ -496,8 +502,9 @@ fn compare(group_text: &str, names: [&str; 2]) -> Result<bool, String> {
     if !covers(tables, &marks, &group) {
         return Err("the marks of the group's table words miss none".to_string());
     }
-    let seen_by_group = |line: &SetLine| seen(tables, &marks, &group, line.table, line.index);
-    same_sets("the same set lines for what is the group's", &files, seen_by_group)?;
+    let groups =
+        |line: &SetLine| !public(line) && seen(tables, &marks, &group, line.table, line.index);
+    same_sets("the same set lines for what is the group's", &files, groups)?;
     if !closed(tables, &group) {
         return Err(format!("no PE outside the group lists a member: {}", breach(tables, &group)));
     }
@@ -506,7 +513,8 @@ fn compare(group_text: &str, names: [&str; 2]) -> Result<bool, String> {
 
     let answers = files.each_mut().map(answers);
     println!("group {}; first {}; second {}", group_text, names[0], names[1]);
-    let title = ["first", "second", "PE", "request", "answer in the first", "answer in the second", ""];
+    let title =
+        ["first", "second", "PE", "request", "answer in the first", "answer in the second", ""];
     let mut rows = vec![title.map(str::to_string).to_vec()];
     let mut different = 0;
     for (&(i, pe), &(j, _)) in own[0].iter().zip(&own[1]) {
