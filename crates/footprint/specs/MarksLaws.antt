@@ -6,8 +6,8 @@
 --     reads-marked        THE STATEMENT: where no member's entry misses a word, every word that a member's walk reads for an address of the DMA class
 --                         has a mark
 -- Assumes nothing.
-use mathlib.Core.Path.{_≡_, refl, sym}
-use mathlib.Core.Bool.{Bool, true, false, not, _&&_, _||_}
+use mathlib.Core.Path.{_≡_, refl}
+use mathlib.Core.Bool.{true, false, not, _&&_, _||_}
 use mathlib.Core.List.{List, List·Memᴰ, List·Memᴰ·not-nil}
 use Prim.Native.Nat.{ℕ, zero, suc, _+_, _-_, _*_, _/_, _%_, _^_, _<_, _≤_}
 use native.Mathlib.Nat.{mod-lt, div-eq-of-lt, zero-div}
@@ -27,8 +27,9 @@ use Rattle.profile.specs.Entry.{half, entryIn, entry, pageOf, indexBits, span, 
 use Rattle.profile.specs.Tables.{Tables, mostPes}
 use Rattle.profile.specs.Walk.{place, nextBase, leads, walkFrom, walk, readsBy}
 use Rattle.profile.specs.WalkLaws.{walk-suc, walk-cases}
-use Rattle.footprint.specs.Any.{any-none}
-use Rattle.footprint.specs.Member.{memberOf, group, member-below, not-true}
+use Rattle.footprint.specs.AnyLaws.{any-none}
+use Rattle.footprint.specs.Member.{memberOf, group}
+use Rattle.footprint.specs.MemberLaws.{member-below, not-true, not-false}
 use Rattle.footprint.specs.Marks.{anyMark, marked, inTable, misses, tableMisses, wordMisses, levelMisses, levelsMiss, paged, entryMisses, peMisses, anyMisses}
 
 pub paged-ranges : (e : TranslationEntry) → paged e ≡ true → (e .table ≤ 31) × ((1 ≤ e .levels) × (e .levels ≤ 5))
@@ -39,10 +40,6 @@ paged-ranges e h =
     by-cases (eqb (e .page) 0) (λ q. clash (rw (o, p, q) at h) refl) (λ q.
     by-cases (ltb (e .levels) 1) (λ r. clash (rw (o, p, q, r) at h) refl)
     (λ r. (ltb-false 31 (e .table) p, (ltb-false (e .levels) 1 r, leb-true (e .levels) 5 (rw (o, p, q, r) at h)))))))
-
-not-false : (b : Bool) → not b ≡ false → b ≡ true
-not-false true e = refl
-not-false false e = sym e
 
 module _ (e : TranslationEntry) (a : ByteAddress) (h : walks e a ≡ true) where
   good : (tableGood e && not (bypass e) && pagesGood e) ≡ true

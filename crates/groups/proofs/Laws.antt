@@ -16,7 +16,7 @@ use Rattle.decision.specs.Promise.{knownOwner}
 use Rattle.bridge.specs.declared.layout.Decoded.{Decoded}
 use Rattle.bridge.specs.declared.layout.Decoded.the-variants.{Named, Unnamed}
 use Rattle.footprint.specs.Member.{memberOf}
-use Rattle.groups.specs.Group.{flag, ownerNumber, knownOwnerAs, lists, listsAny, opens, anyOpens, closed}
+use Rattle.groups.specs.Group.{flag, ownerNumber, knownOwnerAs, memberListed, listsMember, outsiderLists, anyOutsiderLists, closed}
 use Rattle.footprint.specs.Marks.{anyMisses}
 use Rattle.groups.specs.Seen.{interruptSeen}
 
@@ -56,29 +56,29 @@ module _ (f : Tables) (s : Live) {d : Decoded} where
 -- ---- closed groups
 
 module _ (g v : List ℕ) (k : ℕ) {b : Bool} (asked : b ≡ memberOf g k) where
-  pub lists-member : {r : Bool} → b ≡ true → r ≡ bitOf v k → r ≡ lists g v k
-  unfolding lists
-  lists-member o h = rw (← asked, o) h
+  pub listed-member : {r : Bool} → b ≡ true → r ≡ bitOf v k → r ≡ memberListed g v k
+  unfolding memberListed
+  listed-member o h = rw (← asked, o) h
 
-  pub lists-other : b ≡ false → false ≡ lists g v k
-  unfolding lists
-  lists-other o = rw (← asked, o)
+  pub listed-other : b ≡ false → false ≡ memberListed g v k
+  unfolding memberListed
+  listed-other o = rw (← asked, o)
 
 module _ (g l : List ℕ) (p : ℕ) {b : Bool} (asked : b ≡ memberOf g p) where
-  pub opens-member : b ≡ true → false ≡ opens g l p
-  unfolding opens
-  opens-member o = rw (← asked, o)
+  pub outsider-member : b ≡ true → false ≡ outsiderLists g l p
+  unfolding outsiderLists
+  outsider-member o = rw (← asked, o)
 
-  pub opens-other : {v : List ℕ} {r : Bool} → b ≡ false → v ≡ vectorIn l (record { 0 = p }) → r ≡ listsAny g v → r ≡ opens g l p
-  unfolding opens
-  opens-other o e h = rw (← asked, o, ← e) h
+  pub outsider-other : {v : List ℕ} {r : Bool} → b ≡ false → v ≡ vectorIn l (record { 0 = p }) → r ≡ listsMember g v → r ≡ outsiderLists g l p
+  unfolding outsiderLists
+  outsider-other o e h = rw (← asked, o, ← e) h
 
 module _ (n : ℕ) (g l : List ℕ) {b : Bool} where
-  pub closed-broken : n ≤ mostPes → b ≡ anyOpens g l n → b ≡ true → 0 ≡ flag (closed n g l)
+  pub closed-broken : n ≤ mostPes → b ≡ anyOutsiderLists g l n → b ≡ true → 0 ≡ flag (closed n g l)
   unfolding closed flag
   closed-broken h e o = rw (le-leb _ _ h, ← e, o)
 
-  pub closed-kept : n ≤ mostPes → b ≡ anyOpens g l n → b ≡ false → 1 ≡ flag (closed n g l)
+  pub closed-kept : n ≤ mostPes → b ≡ anyOutsiderLists g l n → b ≡ false → 1 ≡ flag (closed n g l)
   unfolding closed flag
   closed-kept h e o = rw (le-leb _ _ h, ← e, o)
 

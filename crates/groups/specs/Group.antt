@@ -1,10 +1,10 @@
--- Whom a request belongs to, in numbers, and the test that no PE outside the group lists a member.
+-- Whom a request belongs to, in numbers, and the test that no PE outside the group memberListed a member.
 --     flag b              a test as a number: 1 or 0
 --     ownerNumber o       the number of the owner, or 65,536, which is no PE's, for nobody
 --     knownOwnerAs f s d  the owner of what the words of a request name; nobody where N is above its limit
---     lists g v k         PE k is a member and in the vector v; listsAny g v: some PE is
---     opens g l p         PE p is no member and lists one, l being the peers table; anyOpens g l n: one of the first n PEs
---     closed n g l        no PE below n outside the group lists a member; n being N, and at most its limit
+--     memberListed g v k      PE k is a member and in the vector v; listsMember g v: some PE is
+--     outsiderLists g l p     PE p is no member and lists one, l being the peers table; anyOutsiderLists g l n: one of the first n PEs
+--     closed n g l        no PE below n outside the group memberListed a member; n being N, and at most its limit
 -- Assumes nothing.
 use mathlib.Core.Bool.{Bool, true, false, cond, not}
 use mathlib.Core.List.{List}
@@ -34,17 +34,17 @@ unfoldable pub knownOwnerAs : Tables → Live → Decoded → Owner
 knownOwnerAs f s (Named q) = knownOwner f s q
 knownOwnerAs f s Unnamed = Nobody BadRequest
 
-unfoldable pub lists : (g v : List ℕ) → ℕ → Bool
-lists g v k = cond (memberOf g k) (bitOf v k) false
+unfoldable pub memberListed : (g v : List ℕ) → ℕ → Bool
+memberListed g v k = cond (memberOf g k) (bitOf v k) false
 
-abbrev pub listsAny : (g v : List ℕ) → Bool
-listsAny g v = any mostPes (lists g v)
+abbrev pub listsMember : (g v : List ℕ) → Bool
+listsMember g v = any mostPes (memberListed g v)
 
-unfoldable pub opens : (g peers : List ℕ) → ℕ → Bool
-opens g l p = cond (memberOf g p) false (listsAny g (vectorIn l (record { 0 = p })))
+unfoldable pub outsiderLists : (g peers : List ℕ) → ℕ → Bool
+outsiderLists g l p = cond (memberOf g p) false (listsMember g (vectorIn l (record { 0 = p })))
 
-abbrev pub anyOpens : (g peers : List ℕ) → ℕ → Bool
-anyOpens g l n = any n (opens g l)
+abbrev pub anyOutsiderLists : (g peers : List ℕ) → ℕ → Bool
+anyOutsiderLists g l n = any n (outsiderLists g l)
 
 unfoldable pub closed : ℕ → (g peers : List ℕ) → Bool
-closed n g l = cond (leb n mostPes) (not (anyOpens g l n)) false
+closed n g l = cond (leb n mostPes) (not (anyOutsiderLists g l n)) false

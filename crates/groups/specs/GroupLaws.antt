@@ -25,9 +25,11 @@ use Rattle.decision.specs.Tables.{tables, live}
 use Rattle.bridge.specs.Run.{ownerAs}
 use Rattle.bridge.specs.declared.layout.Decoded.{Decoded}
 use Rattle.bridge.specs.declared.layout.Decoded.the-variants.{Named, Unnamed}
-use Rattle.footprint.specs.Any.{any, any-none, none-any}
-use Rattle.footprint.specs.Member.{memberOf, group, member-below, not-true}
-use Rattle.groups.specs.Group.{flag, ownerNumber, knownOwnerAs, lists, opens, closed}
+use Rattle.footprint.specs.Any.{any}
+use Rattle.footprint.specs.AnyLaws.{any-none, none-any}
+use Rattle.footprint.specs.Member.{memberOf, group}
+use Rattle.footprint.specs.MemberLaws.{member-below, not-true}
+use Rattle.groups.specs.Group.{flag, ownerNumber, knownOwnerAs, memberListed, outsiderLists, closed}
 
 pub flag-one : (b : Bool) → flag b ≡ 1 → b ≡ true
 unfolding flag
@@ -46,31 +48,31 @@ owned-member g (Of p) = refl
 owned-member g (Nobody r) = refl
 
 module _ (g l : List ℕ) where
-  -- a PE outside the group that lists no member
-  opens-not : (p : PeNumber) → memberOf g (p .0) ≡ false → opens g l (p .0) ≡ false → (k : ℕ) → memberOf g k ≡ true → bitOf (vectorIn l p) k ≡ false
-  unfolding opens lists
-  opens-not p o h k u =
-      let none : lists g (vectorIn l p) k ≡ false = any-none mostPes (lists g (vectorIn l p)) (rw o at h) k (member-below g k u) in
+  -- a PE outside the group that memberListed no member
+  outsider-none : (p : PeNumber) → memberOf g (p .0) ≡ false → outsiderLists g l (p .0) ≡ false → (k : ℕ) → memberOf g k ≡ true → bitOf (vectorIn l p) k ≡ false
+  unfolding outsiderLists memberListed
+  outsider-none p o h k u =
+      let none : memberListed g (vectorIn l p) k ≡ false = any-none mostPes (memberListed g (vectorIn l p)) (rw o at h) k (member-below g k u) in
       rw u at none
 
-  not-opens : (p : ℕ) → (memberOf g p ≡ false → (k : ℕ) → memberOf g k ≡ true → bitOf (vectorIn l (record { 0 = p })) k ≡ false) → opens g l p ≡ false
-  unfolding opens lists
-  not-opens p h =
+  none-outsider : (p : ℕ) → (memberOf g p ≡ false → (k : ℕ) → memberOf g k ≡ true → bitOf (vectorIn l (record { 0 = p })) k ≡ false) → outsiderLists g l p ≡ false
+  unfolding outsiderLists memberListed
+  none-outsider p h =
       by-cases (memberOf g p) (λ o. rw o)
-      (λ o. rw o (none-any mostPes (lists g (vectorIn l (record { 0 = p })))
+      (λ o. rw o (none-any mostPes (memberListed g (vectorIn l (record { 0 = p })))
       (λ k _. by-cases (memberOf g k) (λ u. rw u (h o k u)) (λ u. rw u))))
 
 pub closed-is : (g : List ℕ) (f : Tables) → closed (f .sizes .pes) g (f .peers) ≡ true → Closed (group g) f
 unfolding closed
 closed-is g f h =
     by-cases (leb (f .sizes .pes) mostPes)
-    (λ o. let none = not-true (any (f .sizes .pes) (opens g (f .peers))) (rw o at h) in
-    record { unlisted = λ p k b u m. opens-not g (f .peers) p u (any-none (f .sizes .pes) (opens g (f .peers)) none (p .0) b) (k .0) m })
+    (λ o. let none = not-true (any (f .sizes .pes) (outsiderLists g (f .peers))) (rw o at h) in
+    record { unlisted = λ p k b u m. outsider-none g (f .peers) p u (any-none (f .sizes .pes) (outsiderLists g (f .peers)) none (p .0) b) (k .0) m })
     (λ o. clash (rw o at h) refl)
 
 pub is-closed : (g : List ℕ) (f : Tables) → f .sizes .pes ≤ mostPes → Closed (group g) f → closed (f .sizes .pes) g (f .peers) ≡ true
 unfolding closed
 is-closed g f h c =
-    let none : any (f .sizes .pes) (opens g (f .peers)) ≡ false =
-    none-any (f .sizes .pes) (opens g (f .peers)) (λ p b. not-opens g (f .peers) p (λ o k m. c .unlisted (record { 0 = p }) (record { 0 = k }) b o m)) in
+    let none : any (f .sizes .pes) (outsiderLists g (f .peers)) ≡ false =
+    none-any (f .sizes .pes) (outsiderLists g (f .peers)) (λ p b. none-outsider g (f .peers) p (λ o k m. c .unlisted (record { 0 = p }) (record { 0 = k }) b o m)) in
     rw (le-leb _ _ h, none)

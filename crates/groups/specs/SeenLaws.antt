@@ -1,13 +1,11 @@
 -- Two bridges that agree in the words that are public or the group's meet the premises of demand 3, and a run of each answers the group alike.
---     tableOf a n         table n of bridge a
---     Shown g t a b       sizes and lengths are equal, and every word that is seen in the first bridge, t being the marks of its memory
 --     viewed              with marks that miss nothing, `Shown` gives `View`: what demand 3 asks of two bridges
 --     isolated-run        THE STATEMENT: what `closed`, `anyMisses` and `seen` test, and own requests that are equal, give equal answers
 -- Assumes nothing.
 use mathlib.Core.Path.{_≡_, refl, ap}
 use mathlib.Core.Bool.{true, false}
-use mathlib.Core.List.{List, []}
-use Prim.Native.Nat.{ℕ, zero, suc, _+_, _*_, _/_, _%_, _<_}
+use mathlib.Core.List.{List}
+use Prim.Native.Nat.{ℕ, _+_, _*_, _/_, _%_, _<_}
 use native.Mathlib.Nat.{add-zero}
 use native.Mathlib.Omega.{arith}
 use lib.Dec.{eqb}
@@ -28,23 +26,8 @@ use Rattle.groups.specs.Group.{closed}
 use Rattle.groups.specs.GroupLaws.{closed-is}
 use Rattle.footprint.specs.Marks.{anyMisses}
 use Rattle.footprint.specs.MarksLaws.{reads-marked}
+use Rattle.groups.specs.Shown.{Shown}
 use Rattle.groups.specs.Seen.{interruptSeen, seen}
-
-abbrev pub tableOf : Bridge → ℕ → List ℕ
-tableOf a zero = a .tables .requesters
-tableOf a (suc zero) = a .tables .entries
-tableOf a (suc (suc zero)) = a .memory
-tableOf a (suc (suc (suc zero))) = a .tables .peers
-tableOf a (suc (suc (suc (suc zero)))) = a .live .interrupts
-tableOf a (suc (suc (suc (suc (suc zero))))) = a .tables .windows
-tableOf a (suc (suc (suc (suc (suc (suc zero)))))) = a .tables .segments
-tableOf a (suc (suc (suc (suc (suc (suc (suc zero))))))) = a .live .state
-tableOf a (suc (suc (suc (suc (suc (suc (suc (suc n)))))))) = []
-
-pub record Shown (g t : List ℕ) (a b : Bridge) : Type 0 where
-  pub sizes : a .tables .sizes ≡ b .tables .sizes
-  pub all-lengths : lengthsOf a ≡ lengthsOf b
-  pub words : (n i : ℕ) → seen g (a .live .interrupts) t n i ≡ true → at (tableOf a n) i ≡ at (tableOf b n) i
 
 module _ (g t : List ℕ) (a b : Bridge) (s : Shown g t a b) where
   same-length : (P : Lengths → ℕ) → P (lengthsOf a) ≡ P (lengthsOf b)

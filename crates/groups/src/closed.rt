@@ -5,11 +5,11 @@ use footprint::member;
 use kinds::number::PeNumber;
 ghost use mathlib.Core.Path.{_≡_};
 ghost use Prim.Native.Nat.{_<_, _≤_};
-ghost use Rattle.groups.specs.Group.{lists, listsAny, opens, anyOpens};
+ghost use Rattle.groups.specs.Group.{memberListed, listsMember, outsiderLists, anyOutsiderLists};
 
 // PE k is a member and in the vector.
-fn lists(group: &[u64], vector: &[u64], k: usize) -> bool
-    ensures { λ r. ⌜ r ≡ lists (now (group .entry)) (now (vector .entry)) k ⌝ }
+fn member_listed(group: &[u64], vector: &[u64], k: usize) -> bool
+    ensures { λ r. ⌜ r ≡ memberListed (now (group .entry)) (now (vector .entry)) k ⌝ }
 {
     if member::is_member(group, k as u64) {
         return member::is_listed(vector, k);
@@ -17,13 +17,13 @@ fn lists(group: &[u64], vector: &[u64], k: usize) -> bool
     false
 }
 
-fn lists_any(group: &[u64], vector: &[u64]) -> bool
-    ensures { λ r. ⌜ r ≡ listsAny (now (group .entry)) (now (vector .entry)) ⌝ }
+fn lists_member(group: &[u64], vector: &[u64]) -> bool
+    ensures { λ r. ⌜ r ≡ listsMember (now (group .entry)) (now (vector .entry)) ⌝ }
 {
     let mut left: usize = member::MOST_PES as usize;
     while 0 < left {
         let k = left - 1;
-        if lists(group, vector, k) {
+        if member_listed(group, vector, k) {
             return true;
         }
         left -= 1;
@@ -32,26 +32,26 @@ fn lists_any(group: &[u64], vector: &[u64]) -> bool
 }
 
 // PE `pe` is no member and lists one.
-fn opens(group: &[u64], peers: &[u64], pe: usize) -> bool
+fn outsider_lists(group: &[u64], peers: &[u64], pe: usize) -> bool
     requires { ⌜ pe < 256 ⌝ }
-    ensures { λ r. ⌜ r ≡ opens (now (group .entry)) (now (peers .entry)) pe ⌝ }
+    ensures { λ r. ⌜ r ≡ outsiderLists (now (group .entry)) (now (peers .entry)) pe ⌝ }
 {
     if member::is_member(group, pe as u64) {
         return false;
     }
     let vector = endpoints::peer_vector(peers, PeNumber(pe as u16));
-    lists_any(group, &vector)
+    lists_member(group, &vector)
 }
 
 // One of the first `pes` PEs is no member and lists one.
-pub(crate) fn any_opens(group: &[u64], peers: &[u64], pes: usize) -> bool
+pub(crate) fn any_outsider_lists(group: &[u64], peers: &[u64], pes: usize) -> bool
     requires { ⌜ pes ≤ 256 ⌝ }
-    ensures { λ r. ⌜ r ≡ anyOpens (now (group .entry)) (now (peers .entry)) pes ⌝ }
+    ensures { λ r. ⌜ r ≡ anyOutsiderLists (now (group .entry)) (now (peers .entry)) pes ⌝ }
 {
     let mut left: usize = pes;
     while 0 < left {
         let k = left - 1;
-        if opens(group, peers, k) {
+        if outsider_lists(group, peers, k) {
             return true;
         }
         left -= 1;

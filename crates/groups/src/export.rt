@@ -118,7 +118,7 @@ pub extern "C" fn celltimber_closed(pes: u64, peers: &[u64], group: &[u64]) -> u
     ensures { λ r. ⌜ r ≡ flag (closed pes (now (group .entry)) (now (peers .entry))) ⌝ }
 {
     if pes <= member::MOST_PES {
-        if closed::any_opens(group, peers, pes as usize) {
+        if closed::any_outsider_lists(group, peers, pes as usize) {
             return 0;
         }
         return 1;

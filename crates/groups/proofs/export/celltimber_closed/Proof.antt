@@ -4,8 +4,8 @@ use borrow.Author.Needs.{needs}
 use Rattle.groups.proofs.export.celltimber_closed.Statement.{statement}
 use Rattle.groups.proofs.export.celltimber_closed.Tie as tie
 
-any-opens-requires : tie.Need-any-opens-requires
-any-opens-requires c κs = search needs
+any-outsider-lists-requires : tie.Need-any-outsider-lists-requires
+any-outsider-lists-requires c κs = search needs
 
 returns : tie.Need-returns
 returns c = search laws.closed-broken
@@ -17,4 +17,4 @@ returns-3 : tie.Need-returns-3
 returns-3 c = search laws.closed-unknown
 
 pub celltimber-closed-spec : {M : Type 1} → statement M
-celltimber-closed-spec = tie.close (tie.spec any-opens-requires returns returns-2 returns-3)
+celltimber-closed-spec = tie.close (tie.spec any-outsider-lists-requires returns returns-2 returns-3)

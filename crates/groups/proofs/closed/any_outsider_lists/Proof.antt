@@ -1,14 +1,15 @@
--- `groups::closed::any_opens` meets its contract. The invariant: none of the numbers passed is found. The measure is how many are left. Assumes nothing.
-use Rattle.groups.specs.Group.{opens}
-use Rattle.footprint.specs.Any.{any, any-found, any-next, any-done}
+-- `groups::closed::any_outsider_lists` meets its contract. The invariant: none of the numbers passed is found. The measure is how many are left. Assumes nothing.
+use Rattle.groups.specs.Group.{outsiderLists}
+use Rattle.footprint.specs.Any.{any}
+use Rattle.footprint.specs.AnyLaws.{any-found, any-next, any-done}
 use Prim.Native.Nat.{_≤_}
 use mathlib.Core.Path.{_≡_}
 use borrow.Author.Needs.{needs}
-use Rattle.groups.proofs.closed.any_opens.Statement.{statement}
-use Rattle.groups.proofs.closed.any_opens.Tie as tie
+use Rattle.groups.proofs.closed.any_outsider_lists.Statement.{statement}
+use Rattle.groups.proofs.closed.any_outsider_lists.Tie as tie
 
 abbrev Inv-loop : tie.InvT-loop
-Inv-loop group peers pes left₀ left = (left ≤ pes) × (any pes (opens group peers) ≡ any left (opens group peers))
+Inv-loop group peers pes left₀ left = (left ≤ pes) × (any pes (outsiderLists group peers) ≡ any left (outsiderLists group peers))
 
 abbrev μ-loop : tie.MeasureT-loop
 μ-loop group peers pes left₀ left = left
@@ -19,8 +20,8 @@ loop-holds c = search needs
 sub-k : tie.Need-sub-k Inv-loop μ-loop
 sub-k c = search needs
 
-opens-requires : tie.Need-opens-requires Inv-loop μ-loop
-opens-requires c κs = search needs
+outsider-lists-requires : tie.Need-outsider-lists-requires Inv-loop μ-loop
+outsider-lists-requires c κs = search needs
 
 returns : tie.Need-returns Inv-loop μ-loop
 returns c = search any-found
@@ -37,15 +38,15 @@ loop-again c = search (needs, any-next)
 returns-2 : tie.Need-returns-2 Inv-loop μ-loop
 returns-2 c = search any-done
 
-pub any-opens-spec : {M : Type 1} → statement M
-any-opens-spec =
+pub any-outsider-lists-spec : {M : Type 1} → statement M
+any-outsider-lists-spec =
     tie.close
     (tie.spec
     Inv-loop
     μ-loop
     loop-holds
     sub-k
-    opens-requires
+    outsider-lists-requires
     returns
     sub-left
     loop-less

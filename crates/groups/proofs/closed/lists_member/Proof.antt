@@ -1,14 +1,15 @@
--- `groups::closed::lists_any` meets its contract. The invariant: none of the numbers passed is found. The measure is how many are left. Assumes nothing.
-use Rattle.groups.specs.Group.{lists}
-use Rattle.footprint.specs.Any.{any, any-found, any-next, any-done}
+-- `groups::closed::lists_member` meets its contract. The invariant: none of the numbers passed is found. The measure is how many are left. Assumes nothing.
+use Rattle.groups.specs.Group.{memberListed}
+use Rattle.footprint.specs.Any.{any}
+use Rattle.footprint.specs.AnyLaws.{any-found, any-next, any-done}
 use Prim.Native.Nat.{_≤_}
 use mathlib.Core.Path.{_≡_}
 use borrow.Author.Needs.{needs}
-use Rattle.groups.proofs.closed.lists_any.Statement.{statement}
-use Rattle.groups.proofs.closed.lists_any.Tie as tie
+use Rattle.groups.proofs.closed.lists_member.Statement.{statement}
+use Rattle.groups.proofs.closed.lists_member.Tie as tie
 
 abbrev Inv-loop : tie.InvT-loop
-Inv-loop group vector left₀ left = (left ≤ 256) × (any 256 (lists group vector) ≡ any left (lists group vector))
+Inv-loop group vector left₀ left = (left ≤ 256) × (any 256 (memberListed group vector) ≡ any left (memberListed group vector))
 
 abbrev μ-loop : tie.MeasureT-loop
 μ-loop group vector left₀ left = left
@@ -19,8 +20,8 @@ loop-holds c = search needs
 sub-k : tie.Need-sub-k Inv-loop μ-loop
 sub-k c = search needs
 
-lists-requires : tie.Need-lists-requires Inv-loop μ-loop
-lists-requires c κs = search needs
+member-listed-requires : tie.Need-member-listed-requires Inv-loop μ-loop
+member-listed-requires c κs = search needs
 
 returns : tie.Need-returns Inv-loop μ-loop
 returns c = search any-found
@@ -37,15 +38,15 @@ loop-again c = search (needs, any-next)
 returns-2 : tie.Need-returns-2 Inv-loop μ-loop
 returns-2 c = search any-done
 
-pub lists-any-spec : {M : Type 1} → statement M
-lists-any-spec =
+pub lists-member-spec : {M : Type 1} → statement M
+lists-member-spec =
     tie.close
     (tie.spec
     Inv-loop
     μ-loop
     loop-holds
     sub-k
-    lists-requires
+    member-listed-requires
     returns
     sub-left
     loop-less
