@@ -1,4 +1,4 @@
-// Whether marks of memory words leave out a word that a member's walks can read. Bit k of mark j says that memory word j is read with k levels below it.
+// Whether marks of memory words miss a word that a member's walks can read. Bit k of mark j says that memory word j is read with k levels below it.
 use crate::member;
 use kinds::number::ByteAddress;
 use kinds::number::PeNumber;
@@ -9,12 +9,16 @@ ghost use mathlib.Core.Path.{_≡_};
 ghost use Prim.Native.Nat.{_<_, _≤_};
 ghost use Rattle.footprint.specs.Marks.{marked, inTable, misses, tableMisses, wordMisses, levelMisses, levelsMiss, paged, entryMisses, peMisses, anyMisses, anyMark};
 
-// The limit of the levels, and what a table code lacks to its index bits.
+// The limits of the levels and of the table code.
 const MOST_LEVELS: u64 = 5;
 
 const MOST_CODE: u64 = 31;
 
+// A table of code c has 2^(c + 8) words.
 const CODE_BITS: u64 = 8;
+
+// An address that picks the second record of a PE.
+const SECOND: u64 = 0x800_0000_0000_0000;
 
 fn is_marked(marks: &[u64], below: u64, j: usize) -> bool
     requires { ⌜ below < 64 ⌝ }
@@ -152,11 +156,7 @@ fn pe_misses(group: &[u64], entries: &[u64], memory: &[u64], marks: &[u64], pe: 
         if entry_misses(memory, marks, first) {
             return true;
         }
-        let second = entry::entry_of(
-            entries,
-            PeNumber(pe as u16),
-            ByteAddress(0x800_0000_0000_0000),
-        );
+        let second = entry::entry_of(entries, PeNumber(pe as u16), ByteAddress(SECOND));
         return entry_misses(memory, marks, second);
     }
     false

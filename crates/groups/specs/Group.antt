@@ -1,10 +1,10 @@
--- Whom a request belongs to, in numbers, and the test that no PE outside the group memberListed a member.
+-- Whom a request belongs to, in numbers, and the test that no PE outside the group lists a member.
 --     flag b              a test as a number: 1 or 0
 --     ownerNumber o       the number of the owner, or 65,536, which is no PE's, for nobody
 --     knownOwnerAs f s d  the owner of what the words of a request name; nobody where N is above its limit
 --     memberListed g v k      PE k is a member and in the vector v; listsMember g v: some PE is
 --     outsiderLists g l p     PE p is no member and lists one, l being the peers table; anyOutsiderLists g l n: one of the first n PEs
---     closed n g l        no PE below n outside the group memberListed a member; n being N, and at most its limit
+--     closed n g l        no PE below n outside the group lists a member; n being N, and at most its limit
 -- Assumes nothing.
 use mathlib.Core.Bool.{Bool, true, false, cond, not}
 use mathlib.Core.List.{List}
