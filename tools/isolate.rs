@@ -227,7 +227,8 @@ struct RequestLine {
     words: RequestWords,
 }
 
-/// A replay file: its size line, the set lines after it, and its requests. A bad line changes nothing and belongs to nobody.
+/// A replay file: its size line, the set lines after it, and its requests. A bad line changes
+/// nothing and belongs to nobody.
 struct File {
     name: String,
     size: (usize, String),
@@ -326,8 +327,8 @@ fn breach(tables: &Tables, group: &Group) -> String {
     String::new()
 }
 
-/// Marks on the memory words that walks of members can read: bit k of mark j, word j with k levels below it.
-/// `covers` tells whether they miss a word.
+/// Marks on the memory words that walks of members can read: bit k of mark j is for word j with
+/// k levels below it. `covers` tells whether they miss a word.
 fn marks(tables: &Tables, group: &Group) -> Vec<u64> {
     let memory = &tables.memory;
     let mut marks = vec![0; memory.len()];
@@ -364,6 +365,11 @@ fn mark(marks: &mut [u64], bits: u64, below: u64, first: u64) {
     }
 }
 
+/// The set lines of a file that `counts` picks.
+fn picked<'a>(file: &'a File, counts: &impl Fn(&SetLine) -> bool) -> Vec<&'a SetLine> {
+    file.sets.iter().filter(|line| counts(line)).collect()
+}
+
 /// The set lines of both files that `counts` picks have to be the same, in the same order.
 fn same_sets(
     what: &str,
@@ -371,19 +377,16 @@ fn same_sets(
     counts: impl Fn(&SetLine) -> bool,
 ) -> Result<(), String> {
     let [a, b] = files;
-    let picked = |file: &'_ File| {
-        let lines = file.sets.iter().enumerate().filter(|(_, line)| counts(line));
-        lines.map(|(place, line)| (place, line.table, line.index, line.value)).collect::<Vec<_>>()
-    };
-    let (of_a, of_b) = (picked(a), picked(b));
+    let (of_a, of_b) = (picked(a, &counts), picked(b, &counts));
+    let said = |line: &&SetLine| (line.table, line.index, line.value);
     for k in 0..of_a.len().max(of_b.len()) {
         let (x, y) = (of_a.get(k), of_b.get(k));
-        if x.map(|x| (x.1, x.2, x.3)) != y.map(|y| (y.1, y.2, y.3)) {
+        if x.map(said) != y.map(said) {
             return Err(format!(
                 "{}: {}, {}",
                 what,
-                place(a, x.map(|x| (a.sets[x.0].number, &*a.sets[x.0].text))),
-                place(b, y.map(|y| (b.sets[y.0].number, &*b.sets[y.0].text)))
+                place(a, x.map(|x| (x.number, &*x.text))),
+                place(b, y.map(|y| (y.number, &*y.text)))
             ));
         }
     }
