@@ -1,10 +1,10 @@
 // Whether marks of memory words miss a word that a member's walks can read. Bit k of mark j says that memory word j is read with k levels below it.
 use crate::member;
+use addresses;
 use kinds::number::ByteAddress;
 use kinds::number::PeNumber;
 use kinds::record::TranslationEntry;
 use kinds::words;
-use translation::entry;
 ghost use mathlib.Core.Path.{_≡_};
 ghost use Prim.Native.Nat.{_<_, _≤_};
 ghost use Rattle.footprint.specs.Marks.{marked, inTable, misses, tableMisses, wordMisses, levelMisses, levelsMiss, paged, entryMisses, peMisses, anyMisses, anyMark};
@@ -152,11 +152,11 @@ fn pe_misses(group: &[u64], entries: &[u64], memory: &[u64], marks: &[u64], pe: 
     ensures { λ r. ⌜ r ≡ peMisses (now (group .entry)) (now (entries .entry)) (now (memory .entry)) (now (marks .entry)) pe ⌝ }
 {
     if member::is_member(group, pe as u64) {
-        let first = entry::entry_of(entries, PeNumber(pe as u16), ByteAddress(0));
+        let first = addresses::entry_of(entries, PeNumber(pe as u16), ByteAddress(0));
         if entry_misses(memory, marks, first) {
             return true;
         }
-        let second = entry::entry_of(entries, PeNumber(pe as u16), ByteAddress(SECOND));
+        let second = addresses::entry_of(entries, PeNumber(pe as u16), ByteAddress(SECOND));
         return entry_misses(memory, marks, second);
     }
     false

@@ -13,8 +13,8 @@ use Rattle.kinds.specs.declared.request.Request.{Request}
 use Rattle.profile.specs.Freeze.{vectorIn}
 use Rattle.profile.specs.Tables.{Tables, Live, mostPes, interruptWords}
 use Rattle.decision.specs.Promise.{knownOwner}
-use Rattle.bridge.specs.declared.layout.Decoded.{Decoded}
-use Rattle.bridge.specs.declared.layout.Decoded.the-variants.{Named, Unnamed}
+use Rattle.layout.specs.declared.Decoded.{Decoded}
+use Rattle.layout.specs.declared.Decoded.the-variants.{Named, Unnamed}
 use Rattle.footprint.specs.Member.{memberOf}
 use Rattle.groups.specs.Group.{flag, ownerNumber, knownOwnerAs, memberListed, listsMember, outsiderLists, anyOutsiderLists, closed}
 use Rattle.footprint.specs.Marks.{anyMisses}

@@ -17,8 +17,8 @@ use Rattle.kinds.specs.declared.lookup.Owner.the-variants.{Of, Nobody}
 use Rattle.profile.specs.Freeze.{vectorIn}
 use Rattle.profile.specs.Tables.{Tables, Live, mostPes}
 use Rattle.decision.specs.Promise.{knownOwner}
-use Rattle.bridge.specs.declared.layout.Decoded.{Decoded}
-use Rattle.bridge.specs.declared.layout.Decoded.the-variants.{Named, Unnamed}
+use Rattle.layout.specs.declared.Decoded.{Decoded}
+use Rattle.layout.specs.declared.Decoded.the-variants.{Named, Unnamed}
 use Rattle.footprint.specs.Any.{any}
 use Rattle.footprint.specs.Member.{memberOf}
 

@@ -23,8 +23,8 @@ use Rattle.profile.specs.Tables.{Tables, mostPes}
 use Rattle.decision.specs.PromiseLaws.{owner-reads}
 use Rattle.decision.specs.Tables.{tables, live}
 use Rattle.bridge.specs.Run.{ownerAs}
-use Rattle.bridge.specs.declared.layout.Decoded.{Decoded}
-use Rattle.bridge.specs.declared.layout.Decoded.the-variants.{Named, Unnamed}
+use Rattle.layout.specs.declared.Decoded.{Decoded}
+use Rattle.layout.specs.declared.Decoded.the-variants.{Named, Unnamed}
 use Rattle.footprint.specs.Any.{any}
 use Rattle.footprint.specs.AnyLaws.{any-none, none-any}
 use Rattle.footprint.specs.Member.{memberOf, group}

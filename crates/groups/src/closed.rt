@@ -1,7 +1,7 @@
 // Whether a PE outside the group lists a member in its peer vector.
 
-use endpoints;
 use footprint::member;
+use freeze;
 use kinds::number::PeNumber;
 ghost use mathlib.Core.Path.{_≡_};
 ghost use Prim.Native.Nat.{_<_, _≤_};
@@ -39,7 +39,7 @@ fn outsider_lists(group: &[u64], peers: &[u64], pe: usize) -> bool
     if member::is_member(group, pe as u64) {
         return false;
     }
-    let vector = endpoints::peer_vector(peers, PeNumber(pe as u16));
+    let vector = freeze::peer_vector(peers, PeNumber(pe as u16));
     lists_member(group, &vector)
 }
 

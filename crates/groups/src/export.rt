@@ -1,18 +1,18 @@
 // The functions that Rust and C call: numbers and slices only. A slice passes as its first element's address and its length.
 use crate::closed;
 use crate::seen;
-use bridge::layout;
-use bridge::layout::Decoded;
 use decision::owner;
 use footprint::marks;
 use footprint::member;
 use kinds::lookup::Owner;
 use kinds::record::Sizes;
+use layout;
+use layout::Decoded;
 ghost use mathlib.Core.Path.{_≡_};
 ghost use mathlib.Core.Bool.{not};
 ghost use mathlib.Core.List.{[]};
 ghost use Rattle.decision.specs.Tables.{tables, live};
-ghost use Rattle.bridge.specs.Layout.{decoded};
+ghost use Rattle.layout.specs.Layout.{decoded};
 ghost use Rattle.groups.specs.Group.{flag, ownerNumber, knownOwnerAs, closed};
 ghost use Rattle.footprint.specs.Member.{memberOf};
 ghost use Rattle.footprint.specs.Marks.{anyMisses};
