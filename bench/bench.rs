@@ -1,0 +1,586 @@
+// The plain bridge and the proved one on the same work: request words in, answer words out.
+//
+//     bench [WORK [BATCHES [REPETITIONS]]]
+//     bench list
+//
+// Runs every work, or the named one, and prints a line to each: its name, the requests of one
+// repetition, nanoseconds to a request by the plain and by the proved bridge, and their ratio.
+// The requests come in batches; both bridges serve a batch before the next one is made, and take
+// turns at being first. Answers and words are compared after each batch, outside the time.
+// On a difference it prints one line that names the request, and exits with 1.
+
+#[path = "../plain/bridge.rs"]
+#[allow(dead_code)]
+mod bridge;
+#[path = "../tests/celltimber.rs"]
+#[allow(dead_code)]
+mod celltimber;
+
+use bridge::{Answer, Bridge, Name, Part, Request};
+use celltimber::*;
+use std::process::exit;
+use std::time::Instant;
+
+/// Stands in answer words before a call.
+const UNWRITTEN: u64 = 0x5555_AAAA_5555_AAAA;
+
+/// Repetitions of each work, if the command names no other number.
+const REPETITIONS: usize = 7;
+
+/// SplitMix64.
+struct Random(u64);
+
+impl Random {
+    fn next(&mut self) -> u64 {
+        self.0 = self.0.wrapping_add(0x9E37_79B9_7F4A_7C15);
+        let mut z = self.0;
+        z = (z ^ (z >> 30)).wrapping_mul(0xBF58_476D_1CE4_E5B9);
+        z = (z ^ (z >> 27)).wrapping_mul(0x94D0_49BB_1331_11EB);
+        z ^ (z >> 31)
+    }
+
+    /// 0 to limit - 1.
+    fn below(&mut self, limit: u64) -> u64 {
+        self.next() % limit
+    }
+}
+
+// ---- The plain bridge, from words to words ----
+
+/// The request that words name. Words that name none are badly formed, as a load of width 0 is.
+fn decode(words: &[u64]) -> Request {
+    let unnamed = Request::Load { address: 0, width: 0 };
+    match words[0] {
+        DMA => match (words[2], u32::try_from(words[5])) {
+            (READ | WRITE, Ok(data)) => Request::Dma {
+                requester: words[1],
+                write: words[2] == WRITE,
+                address: words[3],
+                length: words[4],
+                data,
+            },
+            _ => unnamed,
+        },
+        LOAD => Request::Load { address: words[1], width: words[2] },
+        STORE => Request::Store { address: words[1], width: words[2] },
+        ERROR => Request::Error { requester: words[1] },
+        CLEAR => match words[2] {
+            MMIO_BIT => Request::Clear { pe: words[1], part: Part::Mmio },
+            DMA_BIT => Request::Clear { pe: words[1], part: Part::Dma },
+            RECORD => Request::Clear { pe: words[1], part: Part::Record },
+            _ => unnamed,
+        },
+        END => Request::End { interrupt: words[1] },
+        PRIORITY => Request::Priority { interrupt: words[1], priority: words[2] },
+        _ => unnamed,
+    }
+}
+
+fn answer_words(answer: Answer) -> AnswerWords {
+    let name = match answer.name {
+        Name::Pass => PASS,
+        Name::Msi => MSI,
+        Name::Held => HELD,
+        Name::Ones => ONES,
+        Name::Drop => DROP,
+        Name::Refuse => REFUSE,
+        Name::Done => DONE,
+    };
+    let pe = answer.pe.unwrap_or(0);
+    let server = answer.server.unwrap_or(0);
+    let priority = answer.priority.unwrap_or(0);
+    [name, answer.reason, answer.value, answer.words, pe, server, priority, 0]
+}
+
+fn run_plain(tables: &mut Bridge, requests: &[u64], answers: &mut [u64]) -> usize {
+    let asked = requests.chunks_exact(REQUEST_WORDS);
+    let room = answers.chunks_exact_mut(ANSWER_WORDS);
+    let mut count = 0;
+    for (request, answer) in asked.zip(room) {
+        answer.copy_from_slice(&answer_words(tables.handle(decode(request))));
+        count += 1;
+    }
+    count
+}
+
+// ---- The proved bridge ----
+
+fn run_proved(tables: &mut Bridge, requests: &[u64], answers: &mut [u64]) -> usize {
+    run(
+        tables.n,
+        tables.m,
+        tables.r,
+        &tables.requesters,
+        &tables.translation,
+        &tables.memory,
+        &tables.peers,
+        &mut tables.interrupts,
+        &tables.windows,
+        &tables.segments,
+        &mut tables.state,
+        requests,
+        answers,
+    )
+}
+
+// ---- Work ----
+
+/// Requests on tables. Every bridge serves each batch.
+struct Work {
+    name: &'static str,
+    /// The tables of each bridge at the start.
+    tables: Bridge,
+    bridges: usize,
+    /// Batches of one repetition.
+    batches: usize,
+    /// The requests of the next batch.
+    batch: Box<dyn Fn(&mut Random) -> Vec<RequestWords>>,
+    /// Served before each batch, outside the time.
+    before: Vec<RequestWords>,
+    /// Whether an answer in a batch is one that the work is about.
+    wanted: Box<dyn Fn(&AnswerWords) -> bool>,
+}
+
+fn works() -> Vec<Work> {
+    vec![
+        Work {
+            name: "unknown-requester",
+            tables: Bridge::new(PES, 0, REQUESTERS, 0),
+            bridges: 1,
+            batches: 1_000,
+            batch: Box::new(|random| thousand(|| error(REQUESTERS + random.below(REQUESTERS)))),
+            before: Vec::new(),
+            wanted: Box::new(|answer| answer[0] == REFUSE && answer[1] == 3),
+        },
+        dma_work("dma-1-level", 1),
+        dma_work("dma-2-level", 2),
+        dma_work("dma-3-level", 3),
+        load_work("load-others-empty", [0, 0, 0], [0, 0, 0, 0]),
+        load_work("load-others-mode-0", [WINDOW_15, 1 << 32, 1], [WINDOW_15, WINDOW_SIZE, 0, 0]),
+        msi_work("msi-and-end"),
+        Work {
+            name: "freeze-256",
+            tables: peer_tables(),
+            bridges: 10,
+            batches: 1_000,
+            batch: Box::new(|random| vec![freezing(random)]),
+            before: clears(),
+            wanted: Box::new(|answer| answer[0] == DONE || answer[1] == 5),
+        },
+        Work {
+            name: "clear",
+            tables: peer_tables(),
+            bridges: 1,
+            batches: 1_000,
+            batch: Box::new(|_| clears()),
+            before: vec![error(0)],
+            wanted: Box::new(|answer| answer[0] == DONE),
+        },
+    ]
+}
+
+fn thousand(request: impl FnMut() -> RequestWords) -> Vec<RequestWords> {
+    std::iter::repeat_with(request).take(1_000).collect()
+}
+
+// ---- DMA ----
+
+/// PEs and requesters where a work does not ask for more; requester k is of PE k mod 4.
+const PES: u64 = 4;
+const REQUESTERS: u64 = 64;
+
+/// Words of a table of code 1, and the tables at each level below the first.
+const TABLE_WORDS: u64 = 512;
+const LOWER_TABLES: u64 = 2;
+
+fn dma_work(name: &'static str, levels: u64) -> Work {
+    Work {
+        name,
+        tables: dma_tables(levels),
+        bridges: 1,
+        batches: 1_000,
+        batch: Box::new(move |random| thousand(|| passing_dma(random, levels))),
+        before: Vec::new(),
+        wanted: Box::new(move |answer| answer[0] == PASS && answer[3] == levels),
+    }
+}
+
+/// Two records to each PE, of 4 KiB and of 64 KiB pages, each with tables of its own.
+fn dma_tables(levels: u64) -> Bridge {
+    let mut random = Random(levels);
+    let tables_of_record = 1 + (levels - 1) * LOWER_TABLES;
+    let mut t = Bridge::new(PES, 0, REQUESTERS, 2 * PES * tables_of_record * TABLE_WORDS);
+    for (k, pe) in t.requesters.iter_mut().enumerate() {
+        *pe = k as u16 % PES as u16;
+    }
+    for record in 0..2 * PES {
+        let first = record * tables_of_record;
+        let page_code = if record % 2 == 0 { 1 } else { 5 };
+        let entry = [8 * TABLE_WORDS * first, levels, 1, page_code];
+        t.translation[4 * record as usize..][..4].copy_from_slice(&entry);
+        for table in 0..tables_of_record {
+            // The first of the tables one level lower.
+            let lower = first + 1 + (table + LOWER_TABLES - 1) / LOWER_TABLES * LOWER_TABLES;
+            let last = lower >= first + tables_of_record;
+            for word in 0..TABLE_WORDS {
+                let next = lower + random.below(LOWER_TABLES);
+                let high = if last { random.next() & !0xFFF } else { 8 * TABLE_WORDS * next };
+                let low = random.below(0x400) << 2 | if last { 3 } else { 1 + random.below(3) };
+                t.memory[((first + table) * TABLE_WORDS + word) as usize] = high | low;
+            }
+        }
+    }
+    t
+}
+
+/// A DMA of the DMA class that any entry of `dma_tables` passes.
+fn passing_dma(random: &mut Random, levels: u64) -> RequestWords {
+    let second = random.below(2);
+    let page_bits = if second == 0 { 12 } else { 16 };
+    let address = second << 59 | random.below(1 << (page_bits + 9 * levels));
+    if address >> 16 == 0xFFFF {
+        return passing_dma(random, levels);
+    }
+    let length = 1 + random.below(4_096 - address % 4_096);
+    dma(random.below(REQUESTERS), random.below(2), address, length, random.below(1 << 32))
+}
+
+// ---- Loads ----
+
+/// M64 window 15: 2^40 bytes, its 256 segments to 256 PEs.
+const WINDOW_15: u64 = 3 << 40;
+const WINDOW_SIZE: u64 = 1 << 40;
+
+/// Every window but M64 15 is closed, and has these words.
+fn load_work(name: &'static str, m32: [u64; 3], m64: [u64; 4]) -> Work {
+    let mut tables = Bridge::new(256, 0, REQUESTERS, 0);
+    tables.windows[..3].copy_from_slice(&m32);
+    for window in tables.windows[3..].chunks_mut(4) {
+        window.copy_from_slice(&m64);
+    }
+    tables.windows[63..].copy_from_slice(&[WINDOW_15, WINDOW_SIZE, 2, 0]);
+    Work {
+        name,
+        tables,
+        bridges: 1,
+        batches: 1_000,
+        batch: Box::new(|random| {
+            thousand(|| {
+                let width = 1 << random.below(4);
+                load(WINDOW_15 + random.below(WINDOW_SIZE) / width * width, width)
+            })
+        }),
+        before: Vec::new(),
+        wanted: Box::new(|answer| answer[0] == PASS),
+    }
+}
+
+// ---- MSI ----
+
+const INTERRUPTS: u64 = 256;
+
+/// Each MSI is presented, and ended by the request after it.
+fn msi_work(name: &'static str) -> Work {
+    Work {
+        name,
+        tables: interrupt_tables(),
+        bridges: 1,
+        batches: 1_000,
+        batch: Box::new(|random| {
+            let both = |_| {
+                let number = random.below(INTERRUPTS);
+                [msi(random, number), end(number)]
+            };
+            (0..1_000).flat_map(both).collect()
+        }),
+        before: Vec::new(),
+        wanted: Box::new(|answer| answer[0] == MSI || answer[0] == DONE),
+    }
+}
+
+/// Interrupt k is of PE k mod 4, as requester k is.
+fn interrupt_tables() -> Bridge {
+    let mut random = Random(0);
+    let mut t = Bridge::new(PES, INTERRUPTS, REQUESTERS, 0);
+    for (k, pe) in t.requesters.iter_mut().enumerate() {
+        *pe = k as u16 % PES as u16;
+    }
+    for (k, interrupt) in t.interrupts.chunks_mut(4).enumerate() {
+        let pe = k as u64 % PES;
+        interrupt.copy_from_slice(&[pe, random.below(1 << 24), random.below(255), 0]);
+    }
+    t
+}
+
+/// An MSI in one of the two windows; its low five bits are in the data.
+fn msi(random: &mut Random, number: u64) -> RequestWords {
+    let window = if random.below(2) == 0 { 0xFFFF_0000 } else { 1 << 60 };
+    let requester = random.below(REQUESTERS / PES) * PES + number % PES;
+    dma(requester, WRITE, window | number >> 5 << 9, 4, number & 31)
+}
+
+// ---- Freeze and release ----
+
+/// 256 PEs and a requester of each; every peer vector names all PEs.
+fn peer_tables() -> Bridge {
+    let mut t = Bridge::new(256, 0, 256, 0);
+    for (k, pe) in t.requesters.iter_mut().enumerate() {
+        *pe = k as u16;
+    }
+    t.peers.fill(u64::MAX);
+    t
+}
+
+/// An error message, or a DMA whose class is not served.
+fn freezing(random: &mut Random) -> RequestWords {
+    let requester = random.below(256);
+    if random.below(2) == 0 {
+        error(requester)
+    } else {
+        dma(requester, READ, 2 << 60 | random.below(1 << 40) * 4_096, 1, 0)
+    }
+}
+
+/// Each PE released: both stop bits and the error record.
+fn clears() -> Vec<RequestWords> {
+    let of_pe = |pe| [clear(pe, MMIO_BIT), clear(pe, DMA_BIT), clear(pe, RECORD)];
+    (0..256).flat_map(of_pe).collect()
+}
+
+// ---- Both bridges ----
+
+/// The tables of the bridges of one side, the answers of each, and how many were served.
+struct Side {
+    bridges: Vec<Bridge>,
+    answers: Vec<u64>,
+    served: usize,
+}
+
+impl Side {
+    fn new(work: &Work) -> Side {
+        Side { bridges: vec![work.tables.clone(); work.bridges], answers: Vec::new(), served: 0 }
+    }
+
+    /// Room for the answers of every bridge to so many requests.
+    fn clear_answers(&mut self, requests: usize) {
+        self.answers.clear();
+        self.answers.resize(ANSWER_WORDS * requests * self.bridges.len(), UNWRITTEN);
+        self.served = 0;
+    }
+}
+
+// The two bridges as they are timed. Their instructions are counted by these names.
+
+#[inline(never)]
+fn serve_plain(side: &mut Side, requests: &[u64]) {
+    let room = side.answers.chunks_exact_mut(requests.len() / REQUEST_WORDS * ANSWER_WORDS);
+    for (tables, answers) in side.bridges.iter_mut().zip(room) {
+        side.served += run_plain(tables, requests, answers);
+    }
+}
+
+#[inline(never)]
+fn serve_proved(side: &mut Side, requests: &[u64]) {
+    let room = side.answers.chunks_exact_mut(requests.len() / REQUEST_WORDS * ANSWER_WORDS);
+    for (tables, answers) in side.bridges.iter_mut().zip(room) {
+        side.served += run_proved(tables, requests, answers);
+    }
+}
+
+/// Nanoseconds that a call takes.
+fn timed(call: impl FnOnce()) -> f64 {
+    let start = Instant::now();
+    call();
+    start.elapsed().as_nanos() as f64
+}
+
+/// The same tables on both sides.
+struct Pair {
+    plain: Side,
+    proved: Side,
+}
+
+impl Pair {
+    /// Both serve the same requests; nanoseconds to a request of both.
+    fn serve(&mut self, requests: &[RequestWords], plain_first: bool) -> Times {
+        let words = requests.concat();
+        let (plain, proved) = (&mut self.plain, &mut self.proved);
+        plain.clear_answers(requests.len());
+        proved.clear_answers(requests.len());
+        let mut times = Times { plain: 0.0, proved: 0.0 };
+        if plain_first {
+            times.plain = timed(|| serve_plain(plain, &words));
+            times.proved = timed(|| serve_proved(proved, &words));
+        } else {
+            times.proved = timed(|| serve_proved(proved, &words));
+            times.plain = timed(|| serve_plain(plain, &words));
+        }
+        let all = (requests.len() * plain.bridges.len()) as f64;
+        Times { plain: times.plain / all, proved: times.proved / all }
+    }
+
+    /// The same with no time taken.
+    fn prepare(&mut self, requests: &[RequestWords]) {
+        let words = requests.concat();
+        let mut answers = vec![UNWRITTEN; ANSWER_WORDS * requests.len()];
+        for tables in &mut self.plain.bridges {
+            run_plain(tables, &words, &mut answers);
+        }
+        for tables in &mut self.proved.bridges {
+            run_proved(tables, &words, &mut answers);
+        }
+    }
+
+    /// Whether all answers and all words that can be written are the same.
+    fn same(&self) -> bool {
+        let same_words = |(plain, proved): (&Bridge, &Bridge)| {
+            plain.state == proved.state && plain.interrupts == proved.interrupts
+        };
+        self.plain.served == self.proved.served
+            && self.plain.answers == self.proved.answers
+            && self.plain.bridges.iter().zip(&self.proved.bridges).all(same_words)
+    }
+}
+
+/// The first request that differs, all served one by one from these tables.
+fn difference(tables: &Bridge, requests: &[RequestWords]) -> String {
+    let (mut plain, mut proved) = (tables.clone(), tables.clone());
+    for (k, request) in requests.iter().enumerate() {
+        let (mut wanted, mut given) = ([UNWRITTEN; ANSWER_WORDS], [UNWRITTEN; ANSWER_WORDS]);
+        run_plain(&mut plain, request, &mut wanted);
+        run_proved(&mut proved, request, &mut given);
+        if wanted != given || plain != proved {
+            let words = if plain == proved { "the same" } else { "other" };
+            return format!(
+                "request {} {:x?}: proved {:x?}, plain {:x?}, {} words left",
+                k + 1,
+                request,
+                given,
+                wanted,
+                words
+            );
+        }
+    }
+    "all requests in one call, none alone".to_string()
+}
+
+// ---- Time ----
+
+/// Nanoseconds to a request.
+#[derive(Clone, Copy)]
+struct Times {
+    plain: f64,
+    proved: f64,
+}
+
+impl Times {
+    fn ratio(&self) -> f64 {
+        self.proved / self.plain
+    }
+}
+
+/// All in order, the least first.
+fn sorted(all: &[Times], number: impl Fn(&Times) -> f64) -> Vec<f64> {
+    let mut all: Vec<f64> = all.iter().map(number).collect();
+    all.sort_by(f64::total_cmp);
+    all
+}
+
+fn median(all: &[Times], number: impl Fn(&Times) -> f64) -> f64 {
+    sorted(all, number)[all.len() / 2]
+}
+
+/// One repetition: the medians of its batches.
+fn repetition(work: &Work, batches: usize, random: &mut Random) -> Result<Times, String> {
+    let mut pair = Pair { plain: Side::new(work), proved: Side::new(work) };
+    let mut all = Vec::new();
+    for batch in 0..batches {
+        pair.prepare(&work.before);
+        let before = &pair.plain.bridges[0];
+        let (state, interrupts) = (before.state.clone(), before.interrupts.clone());
+        let requests = (work.batch)(random);
+        all.push(pair.serve(&requests, batch % 2 == 0));
+        if !pair.same() {
+            let before = Bridge { state, interrupts, ..work.tables.clone() };
+            let told = difference(&before, &requests);
+            return Err(format!("{}, batch {}: {}", work.name, batch + 1, told));
+        }
+        for (k, answer) in pair.proved.answers.chunks(ANSWER_WORDS).enumerate() {
+            let number = k % requests.len();
+            if !(work.wanted)(answer.try_into().unwrap()) {
+                return Err(format!(
+                    "{}, batch {}: request {} {:x?}: both answer {:x?}, which is other work",
+                    work.name,
+                    batch + 1,
+                    number + 1,
+                    requests[number],
+                    answer
+                ));
+            }
+        }
+    }
+    // Every lent word, also of the tables that are not written.
+    if pair.plain.bridges != pair.proved.bridges {
+        return Err(format!("{}: a table that is not written differs", work.name));
+    }
+    Ok(Times {
+        plain: median(&all, |times| times.plain),
+        proved: median(&all, |times| times.proved),
+    })
+}
+
+/// A line of the table: the medians of the repetitions, and the least and the greatest ratio.
+fn measure(work: &Work, batches: usize, repetitions: usize) -> Result<String, String> {
+    let mut random = Random(1);
+    let mut all = Vec::new();
+    for _ in 0..repetitions {
+        all.push(repetition(work, batches, &mut random)?);
+    }
+    let requests = (work.batch)(&mut random).len() * work.bridges * batches;
+    let ratios = sorted(&all, Times::ratio);
+    Ok(format!(
+        "{:<20} {:>9} {:>9.1} {:>9.1} {:>6.2} {:>6.2} to {:.2}",
+        work.name,
+        requests,
+        median(&all, |times| times.plain),
+        median(&all, |times| times.proved),
+        median(&all, Times::ratio),
+        ratios[0],
+        ratios[ratios.len() - 1]
+    ))
+}
+
+fn run_works(name: Option<&String>, numbers: &[usize]) -> Result<(), String> {
+    let repetitions = *numbers.get(1).unwrap_or(&REPETITIONS);
+    println!("work                  requests  plain ns proved ns  ratio  least to greatest");
+    for work in works() {
+        if name.map_or(true, |name| name == work.name) {
+            let batches = *numbers.first().unwrap_or(&work.batches);
+            println!("{}", measure(&work, batches, repetitions)?);
+        }
+    }
+    Ok(())
+}
+
+fn main() {
+    let arguments: Vec<String> = std::env::args().skip(1).collect();
+    let numbers: Vec<usize> =
+        arguments.iter().skip(1).filter_map(|text| text.parse().ok()).filter(|&k| k > 0).collect();
+    let name = arguments.first();
+    let known = name.map_or(true, |name| name == "list" || works().iter().any(|w| w.name == name));
+    if !known || arguments.len() > 3 || numbers.len() + 1 != arguments.len().max(1) {
+        eprintln!("usage: bench [WORK [BATCHES [REPETITIONS]]], or bench list");
+        exit(2);
+    }
+    if name.is_some_and(|name| name == "list") {
+        for work in works() {
+            let requests = (work.batch)(&mut Random(1)).len() * work.bridges;
+            println!("{} {}", work.name, requests);
+        }
+        return;
+    }
+    if let Err(difference) = run_works(name, &numbers) {
+        println!("{}", difference);
+        exit(1);
+    }
+}
