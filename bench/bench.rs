@@ -4,10 +4,13 @@
 //     bench list
 //
 // Runs every work, or the named one, and prints a line to each: its name, the requests of one
-// repetition, nanoseconds to a request by the plain and by the proved bridge, and their ratio.
-// The requests come in batches; both bridges serve a batch before the next one is made, and take
-// turns at being first. Answers and words are compared after each batch, outside the time.
-// On a difference it prints one line that names the request, and exits with 1.
+// repetition, nanoseconds to a request by the plain bridge on values, by the plain bridge on words
+// and by the proved one, and the ratio of the last two. `list` prints the works and the requests
+// of one batch of each.
+//
+// The requests come in batches. All three serve a batch before the next one is made, and take
+// turns at being first. Answers and words are compared after each batch, outside the time. On a
+// difference it prints one line that names the request, and exits with 1.
 
 #[path = "../plain/bridge.rs"]
 #[allow(dead_code)]
@@ -23,6 +26,17 @@ use std::time::Instant;
 
 /// Stands in answer words before a call.
 const UNWRITTEN: u64 = 0x5555_AAAA_5555_AAAA;
+
+/// Stands in answers before a call.
+const NO_ANSWER: Answer = Answer {
+    name: Name::Refuse,
+    reason: UNWRITTEN,
+    value: UNWRITTEN,
+    words: UNWRITTEN,
+    pe: None,
+    server: None,
+    priority: None,
+};
 
 /// Repetitions of each work, if the command names no other number.
 const REPETITIONS: usize = 7;
@@ -152,9 +166,12 @@ fn works() -> Vec<Work> {
             before: Vec::new(),
             wanted: Box::new(|answer| answer[0] == REFUSE && answer[1] == 3),
         },
-        dma_work("dma-1-level", 1),
-        dma_work("dma-2-level", 2),
-        dma_work("dma-3-level", 3),
+        dma_work("dma-1-level", 1, 2),
+        dma_work("dma-2-level", 2, 2),
+        dma_work("dma-3-level", 3, 2),
+        dma_work("dma-1-level-reads", 1, 1),
+        dma_work("dma-2-level-reads", 2, 1),
+        dma_work("dma-3-level-reads", 3, 1),
         load_work("load-others-empty", [0, 0, 0], [0, 0, 0, 0]),
         load_work("load-others-mode-0", [WINDOW_15, 1 << 32, 1], [WINDOW_15, WINDOW_SIZE, 0, 0]),
         msi_work("msi-and-end"),
@@ -193,13 +210,14 @@ const REQUESTERS: u64 = 64;
 const TABLE_WORDS: u64 = 512;
 const LOWER_TABLES: u64 = 2;
 
-fn dma_work(name: &'static str, levels: u64) -> Work {
+/// The directions are 1, reads alone, or 2.
+fn dma_work(name: &'static str, levels: u64, directions: u64) -> Work {
     Work {
         name,
         tables: dma_tables(levels),
         bridges: 1,
         batches: 1_000,
-        batch: Box::new(move |random| thousand(|| passing_dma(random, levels))),
+        batch: Box::new(move |random| thousand(|| passing_dma(random, levels, directions))),
         before: Vec::new(),
         wanted: Box::new(move |answer| answer[0] == PASS && answer[3] == levels),
     }
@@ -234,15 +252,16 @@ fn dma_tables(levels: u64) -> Bridge {
 }
 
 /// A DMA of the DMA class that any entry of `dma_tables` passes.
-fn passing_dma(random: &mut Random, levels: u64) -> RequestWords {
+fn passing_dma(random: &mut Random, levels: u64, directions: u64) -> RequestWords {
     let second = random.below(2);
     let page_bits = if second == 0 { 12 } else { 16 };
     let address = second << 59 | random.below(1 << (page_bits + 9 * levels));
     if address >> 16 == 0xFFFF {
-        return passing_dma(random, levels);
+        return passing_dma(random, levels, directions);
     }
+    let direction = random.below(directions);
     let length = 1 + random.below(4_096 - address % 4_096);
-    dma(random.below(REQUESTERS), random.below(2), address, length, random.below(1 << 32))
+    dma(random.below(REQUESTERS), direction, address, length, random.below(1 << 32))
 }
 
 // ---- Loads ----
@@ -347,7 +366,7 @@ fn clears() -> Vec<RequestWords> {
     (0..256).flat_map(of_pe).collect()
 }
 
-// ---- Both bridges ----
+// ---- The bridges side by side ----
 
 /// The tables of the bridges of one side, the answers of each, and how many were served.
 struct Side {
@@ -367,9 +386,29 @@ impl Side {
         self.answers.resize(ANSWER_WORDS * requests * self.bridges.len(), UNWRITTEN);
         self.served = 0;
     }
+
+    /// Whether answers and all words that can be written are the same.
+    fn same(&self, other: &Side) -> bool {
+        let same_words =
+            |(a, b): (&Bridge, &Bridge)| a.state == b.state && a.interrupts == b.interrupts;
+        self.served == other.served
+            && self.answers == other.answers
+            && self.bridges.iter().zip(&other.bridges).all(same_words)
+    }
 }
 
-// The two bridges as they are timed. Their instructions are counted by these names.
+// What is timed. Instructions are counted by the names of these functions.
+
+#[inline(never)]
+fn serve_values(side: &mut Side, requests: &[Request], answers: &mut [Answer]) {
+    let room = answers.chunks_exact_mut(requests.len());
+    for (tables, answers) in side.bridges.iter_mut().zip(room) {
+        for (request, answer) in requests.iter().zip(answers) {
+            *answer = tables.handle(*request);
+            side.served += 1;
+        }
+    }
+}
 
 #[inline(never)]
 fn serve_plain(side: &mut Side, requests: &[u64]) {
@@ -394,51 +433,53 @@ fn timed(call: impl FnOnce()) -> f64 {
     start.elapsed().as_nanos() as f64
 }
 
-/// The same tables on both sides.
-struct Pair {
+/// The same tables three times.
+struct Sides {
+    values: Side,
     plain: Side,
     proved: Side,
 }
 
-impl Pair {
-    /// Both serve the same requests; nanoseconds to a request of both.
-    fn serve(&mut self, requests: &[RequestWords], plain_first: bool) -> Times {
+impl Sides {
+    fn new(work: &Work) -> Sides {
+        Sides { values: Side::new(work), plain: Side::new(work), proved: Side::new(work) }
+    }
+
+    /// All serve the same requests, in an order that `turn` picks; nanoseconds to a request.
+    fn serve(&mut self, requests: &[RequestWords], turn: usize) -> Times {
         let words = requests.concat();
-        let (plain, proved) = (&mut self.plain, &mut self.proved);
-        plain.clear_answers(requests.len());
-        proved.clear_answers(requests.len());
-        let mut times = Times { plain: 0.0, proved: 0.0 };
-        if plain_first {
-            times.plain = timed(|| serve_plain(plain, &words));
-            times.proved = timed(|| serve_proved(proved, &words));
-        } else {
-            times.proved = timed(|| serve_proved(proved, &words));
-            times.plain = timed(|| serve_plain(plain, &words));
+        let decoded: Vec<Request> = requests.iter().map(|words| decode(words)).collect();
+        let all = requests.len() * self.values.bridges.len();
+        let mut answers = vec![NO_ANSWER; all];
+        for side in [&mut self.values, &mut self.plain, &mut self.proved] {
+            side.clear_answers(requests.len());
         }
-        let all = (requests.len() * plain.bridges.len()) as f64;
-        Times { plain: times.plain / all, proved: times.proved / all }
+        let mut times = Times { values: 0.0, plain: 0.0, proved: 0.0 };
+        for k in turn..turn + 3 {
+            match k % 3 {
+                0 => {
+                    let values = &mut self.values;
+                    times.values = timed(|| serve_values(values, &decoded, &mut answers));
+                }
+                1 => times.plain = timed(|| serve_plain(&mut self.plain, &words)),
+                _ => times.proved = timed(|| serve_proved(&mut self.proved, &words)),
+            }
+        }
+        self.values.answers = answers.into_iter().flat_map(answer_words).collect();
+        let each = |time| time / all as f64;
+        Times { values: each(times.values), plain: each(times.plain), proved: each(times.proved) }
     }
 
     /// The same with no time taken.
     fn prepare(&mut self, requests: &[RequestWords]) {
         let words = requests.concat();
         let mut answers = vec![UNWRITTEN; ANSWER_WORDS * requests.len()];
-        for tables in &mut self.plain.bridges {
+        for tables in self.values.bridges.iter_mut().chain(&mut self.plain.bridges) {
             run_plain(tables, &words, &mut answers);
         }
         for tables in &mut self.proved.bridges {
             run_proved(tables, &words, &mut answers);
         }
-    }
-
-    /// Whether all answers and all words that can be written are the same.
-    fn same(&self) -> bool {
-        let same_words = |(plain, proved): (&Bridge, &Bridge)| {
-            plain.state == proved.state && plain.interrupts == proved.interrupts
-        };
-        self.plain.served == self.proved.served
-            && self.plain.answers == self.proved.answers
-            && self.plain.bridges.iter().zip(&self.proved.bridges).all(same_words)
     }
 }
 
@@ -469,6 +510,7 @@ fn difference(tables: &Bridge, requests: &[RequestWords]) -> String {
 /// Nanoseconds to a request.
 #[derive(Clone, Copy)]
 struct Times {
+    values: f64,
     plain: f64,
     proved: f64,
 }
@@ -492,24 +534,24 @@ fn median(all: &[Times], number: impl Fn(&Times) -> f64) -> f64 {
 
 /// One repetition: the medians of its batches.
 fn repetition(work: &Work, batches: usize, random: &mut Random) -> Result<Times, String> {
-    let mut pair = Pair { plain: Side::new(work), proved: Side::new(work) };
+    let mut sides = Sides::new(work);
     let mut all = Vec::new();
     for batch in 0..batches {
-        pair.prepare(&work.before);
-        let before = &pair.plain.bridges[0];
+        sides.prepare(&work.before);
+        let before = &sides.plain.bridges[0];
         let (state, interrupts) = (before.state.clone(), before.interrupts.clone());
         let requests = (work.batch)(random);
-        all.push(pair.serve(&requests, batch % 2 == 0));
-        if !pair.same() {
+        all.push(sides.serve(&requests, batch));
+        if !sides.plain.same(&sides.proved) || !sides.plain.same(&sides.values) {
             let before = Bridge { state, interrupts, ..work.tables.clone() };
             let told = difference(&before, &requests);
             return Err(format!("{}, batch {}: {}", work.name, batch + 1, told));
         }
-        for (k, answer) in pair.proved.answers.chunks(ANSWER_WORDS).enumerate() {
+        for (k, answer) in sides.proved.answers.chunks(ANSWER_WORDS).enumerate() {
             let number = k % requests.len();
             if !(work.wanted)(answer.try_into().unwrap()) {
                 return Err(format!(
-                    "{}, batch {}: request {} {:x?}: both answer {:x?}, which is other work",
+                    "{}, batch {}: request {} {:x?}: all answer {:x?}, which is other work",
                     work.name,
                     batch + 1,
                     number + 1,
@@ -520,10 +562,11 @@ fn repetition(work: &Work, batches: usize, random: &mut Random) -> Result<Times,
         }
     }
     // Every lent word, also of the tables that are not written.
-    if pair.plain.bridges != pair.proved.bridges {
+    if sides.plain.bridges != sides.proved.bridges {
         return Err(format!("{}: a table that is not written differs", work.name));
     }
     Ok(Times {
+        values: median(&all, |times| times.values),
         plain: median(&all, |times| times.plain),
         proved: median(&all, |times| times.proved),
     })
@@ -539,9 +582,10 @@ fn measure(work: &Work, batches: usize, repetitions: usize) -> Result<String, St
     let requests = (work.batch)(&mut random).len() * work.bridges * batches;
     let ratios = sorted(&all, Times::ratio);
     Ok(format!(
-        "{:<20} {:>9} {:>9.1} {:>9.1} {:>6.2} {:>6.2} to {:.2}",
+        "{:<20} {:>9} {:>9.1} {:>9.1} {:>9.1} {:>6.2} {:>6.2} to {:.2}",
         work.name,
         requests,
+        median(&all, |times| times.values),
         median(&all, |times| times.plain),
         median(&all, |times| times.proved),
         median(&all, Times::ratio),
@@ -552,7 +596,7 @@ fn measure(work: &Work, batches: usize, repetitions: usize) -> Result<String, St
 
 fn run_works(name: Option<&String>, numbers: &[usize]) -> Result<(), String> {
     let repetitions = *numbers.get(1).unwrap_or(&REPETITIONS);
-    println!("work                  requests  plain ns proved ns  ratio  least to greatest");
+    println!("work                  requests    values     plain    proved  ratio   all ratios");
     for work in works() {
         if name.map_or(true, |name| name == work.name) {
             let batches = *numbers.first().unwrap_or(&work.batches);
@@ -574,8 +618,7 @@ fn main() {
     }
     if name.is_some_and(|name| name == "list") {
         for work in works() {
-            let requests = (work.batch)(&mut Random(1)).len() * work.bridges;
-            println!("{} {}", work.name, requests);
+            println!("{} {}", work.name, (work.batch)(&mut Random(1)).len() * work.bridges);
         }
         return;
     }
