@@ -387,6 +387,14 @@ impl Side {
         self.served = 0;
     }
 
+    /// Every bridge serves the requests.
+    fn serve(&mut self, requests: &[u64], run: fn(&mut Bridge, &[u64], &mut [u64]) -> usize) {
+        let room = self.answers.chunks_exact_mut(requests.len() / REQUEST_WORDS * ANSWER_WORDS);
+        for (tables, answers) in self.bridges.iter_mut().zip(room) {
+            self.served += run(tables, requests, answers);
+        }
+    }
+
     /// Whether answers and all words that can be written are the same.
     fn same(&self, other: &Side) -> bool {
         let same_words =
@@ -412,18 +420,12 @@ fn serve_values(side: &mut Side, requests: &[Request], answers: &mut [Answer]) {
 
 #[inline(never)]
 fn serve_plain(side: &mut Side, requests: &[u64]) {
-    let room = side.answers.chunks_exact_mut(requests.len() / REQUEST_WORDS * ANSWER_WORDS);
-    for (tables, answers) in side.bridges.iter_mut().zip(room) {
-        side.served += run_plain(tables, requests, answers);
-    }
+    side.serve(requests, run_plain);
 }
 
 #[inline(never)]
 fn serve_proved(side: &mut Side, requests: &[u64]) {
-    let room = side.answers.chunks_exact_mut(requests.len() / REQUEST_WORDS * ANSWER_WORDS);
-    for (tables, answers) in side.bridges.iter_mut().zip(room) {
-        side.served += run_proved(tables, requests, answers);
-    }
+    side.serve(requests, run_proved);
 }
 
 /// Nanoseconds that a call takes.
@@ -470,16 +472,35 @@ impl Sides {
         Times { values: each(times.values), plain: each(times.plain), proved: each(times.proved) }
     }
 
-    /// The same with no time taken.
+    /// All serve the same requests, with no time taken.
     fn prepare(&mut self, requests: &[RequestWords]) {
         let words = requests.concat();
-        let mut answers = vec![UNWRITTEN; ANSWER_WORDS * requests.len()];
-        for tables in self.values.bridges.iter_mut().chain(&mut self.plain.bridges) {
-            run_plain(tables, &words, &mut answers);
+        for side in [&mut self.values, &mut self.plain, &mut self.proved] {
+            side.clear_answers(requests.len());
         }
-        for tables in &mut self.proved.bridges {
-            run_proved(tables, &words, &mut answers);
+        self.values.serve(&words, run_plain);
+        self.plain.serve(&words, run_plain);
+        self.proved.serve(&words, run_proved);
+    }
+
+    /// The state and the interrupts, which are the same on all sides between batches.
+    fn written(&self) -> (Vec<u64>, Vec<u64>) {
+        let tables = &self.plain.bridges[0];
+        (tables.state.clone(), tables.interrupts.clone())
+    }
+
+    /// The difference that these requests made, from these state and interrupts, if any.
+    fn compare(
+        &self,
+        work: &Work,
+        requests: &[RequestWords],
+        (state, interrupts): (Vec<u64>, Vec<u64>),
+    ) -> Result<(), String> {
+        if self.plain.same(&self.proved) && self.plain.same(&self.values) {
+            return Ok(());
         }
+        let before = Bridge { state, interrupts, ..work.tables.clone() };
+        Err(difference(&before, requests))
     }
 }
 
@@ -537,27 +558,22 @@ fn repetition(work: &Work, batches: usize, random: &mut Random) -> Result<Times,
     let mut sides = Sides::new(work);
     let mut all = Vec::new();
     for batch in 0..batches {
-        sides.prepare(&work.before);
-        let before = &sides.plain.bridges[0];
-        let (state, interrupts) = (before.state.clone(), before.interrupts.clone());
+        let told = |text| format!("{}, batch {}: {}", work.name, batch + 1, text);
+        if !work.before.is_empty() {
+            let written = sides.written();
+            sides.prepare(&work.before);
+            sides.compare(work, &work.before, written).map_err(told)?;
+        }
+        let written = sides.written();
         let requests = (work.batch)(random);
         all.push(sides.serve(&requests, batch));
-        if !sides.plain.same(&sides.proved) || !sides.plain.same(&sides.values) {
-            let before = Bridge { state, interrupts, ..work.tables.clone() };
-            let told = difference(&before, &requests);
-            return Err(format!("{}, batch {}: {}", work.name, batch + 1, told));
-        }
+        sides.compare(work, &requests, written).map_err(told)?;
         for (k, answer) in sides.proved.answers.chunks(ANSWER_WORDS).enumerate() {
-            let number = k % requests.len();
+            let k = k % requests.len();
             if !(work.wanted)(answer.try_into().unwrap()) {
-                return Err(format!(
-                    "{}, batch {}: request {} {:x?}: all answer {:x?}, which is other work",
-                    work.name,
-                    batch + 1,
-                    number + 1,
-                    requests[number],
-                    answer
-                ));
+                let text =
+                    format!("request {} {:x?}: all answer {:x?}", k + 1, requests[k], answer);
+                return Err(told(text + ", which is other work"));
             }
         }
     }
