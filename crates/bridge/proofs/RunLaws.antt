@@ -12,21 +12,15 @@ use Rattle.kinds.specs.declared.answer.Answer.{Answer}
 use Rattle.kinds.specs.declared.answer.Answer.the-variants.{Refuse}
 use Rattle.kinds.specs.declared.answer.Reason.the-variants.{TableLength, BadRequest}
 use Rattle.kinds.specs.declared.request.Request.{Request}
-use Rattle.kinds.specs.Words.{at}
 use Rattle.isolation.specs.Isolation.{isolation}
 use Rattle.profile.specs.Tables.{Tables, Live, lengths, sized}
-use Rattle.layout.specs.Layout.{requestWords, answerWords, decoded, decodedAt, stored, written}
+use Rattle.layout.specs.Layout.{requestWords, answerWords, decodedAt, stored, written}
 use Rattle.bridge.specs.Promise.{Handled, Replied, RanAll}
 use Rattle.bridge.specs.RunIsolation.{run-isolation}
 use Rattle.bridge.specs.Run.{answeredAs, afterAs, Ran, ran, ranOne, ranTo, served}
 use Rattle.decision.specs.Tables.{live}
 use Rattle.layout.specs.declared.Decoded.{Decoded}
 use Rattle.layout.specs.declared.Decoded.the-variants.{Named, Unnamed}
-
-pub request-is : (w : List ℕ) (k : ℕ) {h a b c d e : ℕ} {x : Decoded} → h ≡ at w (k * requestWords) → a ≡ at w (k * requestWords + 1)
-    → b ≡ at w (k * requestWords + 2) → c ≡ at w (k * requestWords + 3) → d ≡ at w (k * requestWords + 4) → e ≡ at w (k * requestWords + 5)
-    → x ≡ decoded h a b c d e → x ≡ decodedAt w k
-request-is w k h a b c d e x = rw (h, a, b, c, d, e) at x
 
 module _ (f : Tables) (m : List ℕ) (s : Live) {ok : Bool} (i : ok ≡ sized (f .sizes) (lengths f (length m) s)) where
   pub unnamed-bad : ok ≡ true → Refuse BadRequest 0 ≡ answeredAs f m s Unnamed

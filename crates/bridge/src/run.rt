@@ -5,7 +5,6 @@ use kinds::answer::Answer;
 use kinds::answer::Reason;
 use kinds::record::Lengths;
 use kinds::record::Sizes;
-use kinds::words;
 use layout;
 use layout::Decoded;
 use sizes;
@@ -26,12 +25,12 @@ fn request_at(requests: &[u64], k: usize) -> Decoded
 {
     let first = k * layout::REQUEST_WORDS;
     layout::decode(
-        words::word(requests, first),
-        words::word(requests, first + 1),
-        words::word(requests, first + 2),
-        words::word(requests, first + 3),
-        words::word(requests, first + 4),
-        words::word(requests, first + 5),
+        requests[first],
+        requests[first + 1],
+        requests[first + 2],
+        requests[first + 3],
+        requests[first + 4],
+        requests[first + 5],
     )
 }
 

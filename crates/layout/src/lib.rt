@@ -4,6 +4,9 @@ use kinds::request::Direction;
 use kinds::request::Part;
 use kinds::request::Request;
 ghost use mathlib.Core.Path.{_≡_};
+ghost use mathlib.Core.Bool.{cond};
+ghost use lib.Dec.{eqb};
+ghost use Rattle.kinds.specs.declared.request.Direction.the-variants.{Read, Write};
 ghost use Rattle.layout.specs.Layout.{decoded, decodedDma, decodedClear};
 
 // The words of one request in the list of requests.
@@ -18,31 +21,32 @@ pub enum Decoded {
     Unnamed,
 }
 
+// The direction that a word below 2 names.
+fn direction_of(word: u64) -> Direction
+    ensures { λ r. ⌜ r ≡ cond (eqb word 0) Read Write ⌝ }
+{
+    if word == 0 {
+        return Direction::Read;
+    }
+    Direction::Write
+}
+
 fn decode_dma(requester: u64, direction: u64, address: u64, length: u64, data: u64) -> Decoded
     ensures { λ r. ⌜ r ≡ decodedDma requester direction address length «data» ⌝ }
 {
     if 4294967296 <= data {
         return Decoded::Unnamed;
     }
-    if direction == 0 {
-        return Decoded::Named(Request::Dma {
-            requester,
-            direction: Direction::Read,
-            address: ByteAddress(address),
-            length,
-            data: data as u32,
-        });
+    if 1 < direction {
+        return Decoded::Unnamed;
     }
-    if direction == 1 {
-        return Decoded::Named(Request::Dma {
-            requester,
-            direction: Direction::Write,
-            address: ByteAddress(address),
-            length,
-            data: data as u32,
-        });
-    }
-    Decoded::Unnamed
+    Decoded::Named(Request::Dma {
+        requester,
+        direction: direction_of(direction),
+        address: ByteAddress(address),
+        length,
+        data: data as u32,
+    })
 }
 
 fn decode_clear(pe: u64, part: u64) -> Decoded
