@@ -1,33 +1,166 @@
--- What a loop over the bytes of an input cites: the run from the start is the run from here, i bytes later.
---     lengths-same                    lists of the same lengths
---     run-start                       before the first byte
---     run-more, run-stop, run-done    a byte that is taken; a byte that is not; no byte left
---     took-end, took-kept, took-over  a line feed; a byte that is kept; a byte past the kept ones
+-- What the functions over the bytes of an input cite.
+--     keep-start, keep-byte, keep-over, keep-feed, keep-done      the bytes of a line: what is kept from the start is what is kept from here
+--     moved-end, moved-stop, moved-all    a line that ended, one that could not, and an input that ended before its line
+--     run-start, run-more, run-stop, run-done     the lines of an input: the run from the start is the run from here, i bytes later
+--     lengths-same                        lists of the same lengths
 -- Assumes nothing.
 use mathlib.Core.Path.{_≡_, refl, sym, ap, subst, _∙_}
 use mathlib.Core.Bool.{Bool, true, false, cond, not}
 use mathlib.Core.List.{List, [], _∷_, _++_}
-use Prim.Native.Nat.{ℕ, suc, _+_, _≤_, _<_}
-use native.Mathlib.Nat.{add-zero, zero-add, add-assoc}
+use Prim.Native.Nat.{ℕ, zero, suc, _+_, _≤_, _<_}
+use native.Mathlib.Nat.{add-zero, zero-add, add-assoc, add-suc, suc-add}
 use native.Mathlib.Numerals.{add-one}
 use native.Mathlib.Omega.{arith}
 use lib.Dec.{ltb, eqb}
-use lib.ListN.{length, take, drop, getD, set, drop-of-length-le}
-use lib.Seq.{sets, drop-cons, take-suc-set, length-take-le}
-use borrow.Author.Tests.{eq-eqb, ne-eqb, lt-ltb, le-ltb}
+use lib.ListN.{length, take, drop, getD, set, drop-of-length-le, length-drop}
+use lib.Seq.{sets, drop-cons, drop-drop, take-suc-set, length-take-le, getD-drop}
+use borrow.Author.Tests.{eq-eqb, ne-eqb, lt-ltb, le-ltb, eqb-true}
+use Rattle.kinds.specs.Tests.{by-cases, clash}
 use Rattle.kinds.specs.declared.record.Lengths.{Lengths}
 use Rattle.session.specs.Session.{Session}
 use Rattle.replay.specs.Feed.{free, stuck, Run, ran, later, run}
 use Rattle.replay.specs.FeedLaws.{Ran, run-fed}
-use Rattle.replay.specs.Promise.{EndedTo, TookTo, FedTo}
+use Rattle.replay.specs.Promise.{EndedTo, KeptTo, MovedTo, FedTo}
 use Rattle.replay.specs.Replay.{lineFeed}
-use Rattle.replay.specs.Stream.{Stream, lineKept, held, fed, said}
+use Rattle.replay.specs.Stream.{Stream, lineKept, held, before, heldAll, ended, ending, fed, said}
+
+-- what is kept of the bytes of l from place j on, after p, is what was kept from place i on, after q
+pub record Keeping (q l : List ℕ) (i : ℕ) (p : List ℕ) (j : ℕ) : Type 0 where
+  pub next : j + before (drop j l) ≡ i + before (drop i l)
+  pub kept : heldAll p (take (before (drop j l)) (drop j l)) ≡ heldAll q (take (before (drop i l)) (drop i l))
+
+pub keep-start : (q l : List ℕ) (i : ℕ) → Keeping q l i q i
+keep-start q l i = record { next = refl; kept = refl }
+
+module _ {q l : List ℕ} {i : ℕ} {p : List ℕ} {j : ℕ} (h : Keeping q l i p j) where
+  pub keep-done : {n : ℕ} → length l ≤ j → n ≤ lineKept → KeptTo q l i j p n
+  unfolding before heldAll
+  keep-done g f =
+      let e = drop-of-length-le l {i = j} g in
+      record { next = rw (e, add-zero j) at (h .next); kept = rw e at (h .kept); few = f }
+
+  module _ (g : j < length l) where
+    pub keep-feed : {n : ℕ} → getD l j 0 ≡ 10 → n ≤ lineKept → KeptTo q l i j p n
+    unfolding before heldAll
+    keep-feed b f =
+        let e : drop j l ≡ 10 ∷ drop (suc j) l = drop-cons l j 0 g ∙ rw b in
+        record { next = rw (e, add-zero j) at (h .next); kept = rw e at (h .kept); few = f }
+
+    other : (b : ℕ) → b ≡ getD l j 0 → (b ≡ 10 → ⊥) → (o : List ℕ) → held p b ≡ o → Keeping q l i o (j + 1)
+    unfolding before heldAll
+    other b c f o e =
+        let z = ne-eqb b 10 f in
+        let d : drop j l ≡ b ∷ drop (suc j) l = drop-cons l j 0 g ∙ rw (← c) in
+        let k : heldAll (held p b) (take (before (drop (suc j) l)) (drop (suc j) l)) ≡ heldAll p (take (before (drop j l)) (drop j l)) = rw (d, z) in
+        record { next = rw (add-one j, suc-add) (rw (d, z, add-suc) at (h .next)); kept = rw (add-one j, ← e) (k ∙ h .kept) }
+
+    -- a byte of a line whose first n bytes are in m
+    module _ (m : List ℕ) (n b : ℕ) (e : p ≡ take n m) (c : b ≡ getD l j 0) (f : b ≡ 10 → ⊥) (d : length m ≡ lineKept) where
+      pub keep-byte : n < lineKept → Keeping q l i (take (n + 1) (set m n b)) (j + 1)
+      keep-byte k =
+          other b c f (take (n + 1) (set m n b))
+          (rw (e, length-take-le n m (omega arith), lt-ltb n lineKept k, add-one n, take-suc-set m n b (omega arith)))
+
+      pub keep-over : lineKept ≤ n → n ≤ lineKept → Keeping q l i (take n m) (j + 1)
+      keep-over k r = other b c f (take n m) (rw (e, length-take-le n m (omega arith), le-ltb n lineKept k))
 
 later-none : (r : Run) → later 0 r ≡ r
 later-none r = rw (zero-add (r .bytes))
 
-later-more : (i : ℕ) (r : Run) → later i (later 1 r) ≡ later (i + 1) r
-later-more i r = rw (add-assoc i 1 (r .bytes))
+later-more : (i n : ℕ) (r : Run) → later i (later n r) ≡ later (i + n) r
+later-more i n r = rw (add-assoc i n (r .bytes))
+
+-- the bytes up to a line feed write nothing
+module _ (k : Lengths) (c : ℕ) (s : Session) (a : ℕ) (o : List ℕ) where
+  abbrev line : List ℕ → Stream
+  line p = record { pending = p; count = c; session = s }
+
+  run-other : (p : List ℕ) (b : ℕ) (l : List ℕ) → eqb b lineFeed ≡ false → run k (line p) a o (b ∷ l) ≡ later 1 (run k (line (held p b)) a o l)
+  unfolding run fed said
+  run-other p b l t = rw (t, add-zero a)
+
+  run-kept : (p l : List ℕ) → run k (line p) a o l ≡ later (before l) (run k (line (heldAll p (take (before l) l))) a o (drop (before l) l))
+  unfolding before heldAll
+  run-kept p [] = sym (later-none (run k (line p) a o []))
+  run-kept p (b ∷ l) =
+      by-cases (eqb b lineFeed)
+      (λ t. rw t (sym (later-none (run k (line p) a o (b ∷ l)))))
+      (λ t. rw t
+      (run-other p b l t
+      ∙ ap (λ (r : Run). later 1 r) (run-kept (held p b) l)
+      ∙ later-more 1 (before l) (run k (line (heldAll (held p b) (take (before l) l))) a o (drop (before l) l))
+      ∙ rw (suc-add, zero-add)))
+
+-- the byte after them is a line feed
+feed-after : (l : List ℕ) → before l < length l → getD l (before l) 0 ≡ 10
+unfolding before
+feed-after [] h = absurd (omega arith)
+feed-after (b ∷ l) h =
+    by-cases (eqb b lineFeed) (λ t. rw t (eqb-true b lineFeed t)) (λ t. rw t (feed-after l (let g = rw t at h in omega arith)))
+
+before-most : (l : List ℕ) → before l ≤ length l
+unfolding before
+before-most [] = omega arith
+before-most (b ∷ l) = by-cases (eqb b lineFeed) (λ t. rw t (omega arith)) (λ t. rw t (omega (arith, before-most l)))
+
+-- a line feed
+module _ (k : Lengths) (t : Stream) (a : ℕ) (o l : List ℕ) {u : Stream} {y : ℕ} {v : List ℕ} where
+  run-ended : EndedTo k t a o true u y v → run k t a o (10 ∷ l) ≡ later 1 (run k u y v l)
+  unfolding run fed said
+  run-ended d =
+      let e : free k t a (length o) ≡ true = sym (d .could) in
+      let f : u ≡ ended t = d .stream ∙ rw e in
+      let g : y ≡ a + length (ending t) = d .at ∙ rw e in
+      let h : v ≡ sets o a (ending t) = d .out ∙ rw e in
+      rw (e, f, g, h)
+
+  run-stuck : EndedTo k t a o false u y v → run k t a o (10 ∷ l) ≡ ran u y v 0
+  unfolding run
+  run-stuck d =
+      let e : free k t a (length o) ≡ false = sym (d .could) in
+      let f : u ≡ t = d .stream ∙ rw e in
+      let g : y ≡ a = d .at ∙ rw e in
+      let h : v ≡ o = d .out ∙ rw e in
+      rw (e, f, g, h)
+
+-- the bytes of l from place i to place j were kept after p: q
+module _ (k : Lengths) (c : ℕ) (s : Session) (a : ℕ) (o : List ℕ) {p l : List ℕ} {i j : ℕ} {q : List ℕ} {n : ℕ} (h : KeptTo p l i j q n) (g : i < length l) where
+  -- the run from there
+  run-there : run k (line k c s a o p) a o (drop i l) ≡ later (before (drop i l)) (run k (line k c s a o q) a o (drop j l))
+  run-there = run-kept k c s a o p (drop i l) ∙ rw (← h .kept, drop-drop (before (drop i l)) i l, ← h .next)
+
+  near : j ≤ length l
+  near = omega (arith, h .next, before-most (drop i l), length-drop i l)
+
+  pub moved-all : length l ≤ j → MovedTo k (line k c s a o p) a o l i true (line k c s a o q) a o j
+  moved-all f = record { bytes = before (drop i l); next = h .next; within = near; some = λ _. omega (arith, h .next); same = run-there }
+
+  module _ (f : j < length l) where
+    feed-there : drop j l ≡ 10 ∷ drop (suc j) l
+    feed-there =
+        let e : getD l j 0 ≡ 10 = rw (h .next) (sym (getD-drop i l (before (drop i l)) 0) ∙ feed-after (drop i l) (omega (arith, h .next, length-drop i l))) in
+        drop-cons l j 0 f ∙ rw e
+
+    module _ {u : Stream} {y : ℕ} {v : List ℕ} where
+      pub moved-end : EndedTo k (line k c s a o q) a o true u y v → MovedTo k (line k c s a o p) a o l i true u y v (j + 1)
+      moved-end d =
+          record {
+            bytes = before (drop i l) + 1;
+            next = omega (arith, h .next);
+            within = omega arith;
+            some = λ _. omega arith;
+            same = run-there ∙ rw (feed-there, run-ended k (line k c s a o q) a o (drop (suc j) l) d, add-one j) (later-more (before (drop i l)) 1 (run k u y v (drop (suc j) l)) ∙ rw (add-one (before (drop i l))));
+          }
+
+      pub moved-stop : EndedTo k (line k c s a o q) a o false u y v → MovedTo k (line k c s a o p) a o l i false u y v j
+      moved-stop d =
+          record {
+            bytes = before (drop i l);
+            next = h .next;
+            within = near;
+            some = λ w. clash {b = false} w refl;
+            same = run-there ∙ rw (feed-there, run-stuck k (line k c s a o q) a o (drop (suc j) l) d);
+          }
 
 pub lengths-same : {a b c d e f g h : ℕ} (a' b' c' d' e' f' g' h' : ℕ) → a ≡ a' → b ≡ b' → c ≡ c' → d ≡ d' → e ≡ e' → f ≡ f' → g ≡ g' → h ≡ h' →
     _≡_ {A = Lengths}
@@ -43,51 +176,17 @@ pub run-start : (k : Lengths) (s : Stream) (a : ℕ) (o l : List ℕ) → Here k
 run-start k s a o l = record { same = sym (later-none (run k s a o l)) }
 
 module _ {k : Lengths} {s : Stream} {a : ℕ} {o l : List ℕ} {t : Stream} {z : ℕ} {x : List ℕ} {i : ℕ} (h : Here k s a o l t z x i) where
-  -- a run that takes no further byte
-  halt : run k t z x (drop i l) ≡ ran t z x 0 → FedTo k s a o l i t z x
-  halt f =
-      let e : run k s a o l ≡ ran t z x i = h .same ∙ rw (f, add-zero i) in
-      subst (λ (r : Run). Ran k s a o l r) e (run-fed k s a o l)
-
   pub run-done : length l ≤ i → FedTo k s a o l i t z x
   unfolding run
-  run-done g = halt (rw (drop-of-length-le l {i = i} g))
+  run-done g =
+      let e : run k s a o l ≡ ran t z x i = h .same ∙ rw (drop-of-length-le l {i = i} g, add-zero i) in
+      subst (λ (r : Run). Ran k s a o l r) e (run-fed k s a o l)
 
-  module _ (g : i < length l) where
-    -- a byte that is taken
-    one : (b : ℕ) → getD l i 0 ≡ b → stuck k t z (length x) b ≡ false → Here k s a o l (fed t b) (z + length (said t b)) (sets x z (said t b)) (i + 1)
-    unfolding run
-    one b e f = record { same = h .same ∙ rw (drop-cons l i 0 g, e, f) (later-more i _ ∙ rw (add-one i)) }
+  module _ {m : Lengths} (e : m ≡ k) {u : Stream} {y : ℕ} {v : List ℕ} {j : ℕ} where
+    pub run-more : MovedTo m t z x l i true u y v j → Here k s a o l u y v j
+    run-more d = record { same = h .same ∙ rw (← e, d .same, later-more i (d .bytes) (run m u y v (drop j l)), d .next) }
 
-    module _ {j : Lengths} (e : j ≡ k) {went : Bool} {u : Stream} {y : ℕ} {v : List ℕ} (d : TookTo j t z x (getD l i 0) went u y v) where
-      pub run-more : went ≡ true → Here k s a o l u y v (i + 1)
-      run-more w = rw (d .stream, d .at, d .out, w) (one (getD l i 0) refl (rw (← e, d .could, w)))
-
-      pub run-stop : went ≡ false → FedTo k s a o l i u y v
-      unfolding run
-      run-stop w = rw (d .stream, d .at, d .out, w) (halt (rw (drop-cons l i 0 g, ← e, d .could, w)))
-
--- one byte
-module _ (k : Lengths) (s : Stream) (a : ℕ) (o : List ℕ) (b : ℕ) where
-  pub took-end : b ≡ 10 → {went : Bool} {t : Stream} {z : ℕ} {x : List ℕ} → EndedTo k s a o went t z x → TookTo k s a o b went t z x
-  unfolding fed said
-  took-end e d = rw (e, d .could) (record { could = refl; stream = d .stream; at = d .at; out = d .out })
-
-module _ (k : Lengths) (m : List ℕ) (n c : ℕ) (r : Session) (a : ℕ) (o : List ℕ) (b : ℕ) (e : b ≡ 10 → ⊥) (f : length m ≡ lineKept) where
-  -- a line whose first n bytes are kept in m
-  abbrev kept : List ℕ → Stream
-  kept p = record { pending = p; count = c; session = r }
-
-  other : (p : List ℕ) → held (take n m) b ≡ p → TookTo k (kept (take n m)) a o b true (kept p) a o
-  unfolding fed said
-  other p h =
-      let q = ne-eqb b 10 e in
-      record { could = rw q; stream = rw (q, h); at = rw (q, add-zero a); out = rw q }
-
-  pub took-kept : n < lineKept → TookTo k (kept (take n m)) a o b true (kept (take (n + 1) (set m n b))) a o
-  took-kept j =
-      other (take (n + 1) (set m n b))
-      (rw (length-take-le n m (omega arith), lt-ltb n lineKept j, add-one n, take-suc-set m n b (omega arith)))
-
-  pub took-over : lineKept ≤ n → n ≤ lineKept → TookTo k (kept (take n m)) a o b true (kept (take n m)) a o
-  took-over j q = other (take n m) (rw (length-take-le n m (omega arith), le-ltb n lineKept j))
+    pub run-stop : MovedTo m t z x l i false u y v j → FedTo k s a o l j u y v
+    run-stop d =
+        let f : run k s a o l ≡ ran u y v j = h .same ∙ rw (← e, d .same, d .next, add-zero (d .bytes)) in
+        subst (λ (r : Run). Ran k s a o l r) f (run-fed k s a o l)

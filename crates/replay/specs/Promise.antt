@@ -2,7 +2,8 @@
 --     streamOf p b q e ..     the stream that progress p, the line's bytes b and the lent tables are
 --     FedTo k s a o l ..      of input l, n bytes were taken on stream s, with output o and its end at a: the stream, the end and the output afterwards
 --     EndedTo k s a o ..      the same of the end of a line: whether it could end, and then
---     TookTo k s a o b ..     the same of one byte b
+--     KeptTo p l i j q n      from place i of input l to place j, the bytes up to a line feed or the end were kept after p: q, n bytes of it at most
+--     MovedTo k s a o l i ..  the same from place i to place j, with the line feed if its line could end
 --     closedBy a n r          the end of the output and the count of its lines after reply r, and whether the line went
 --     Buffers, buffers        all lent lists; streamIn p b, roomIn b: the stream and the lengths that they are
 --     Started p               progress p is before the first byte, whatever the lent lists hold
@@ -11,19 +12,19 @@
 --     fits b p                a buffer of 128 bytes for the line, and no more of it pending
 -- Assumes nothing.
 use mathlib.Core.Path.{_≡_}
-use mathlib.Core.Bool.{Bool, true, false, cond, not, _&&_}
+use mathlib.Core.Bool.{Bool, true, false, cond, _&&_}
 use mathlib.Core.List.{List}
-use Prim.Native.Nat.{ℕ, _+_}
+use Prim.Native.Nat.{ℕ, _+_, _≤_, _<_}
 use lib.Dec.{eqb, leb}
-use lib.ListN.{length, take}
+use lib.ListN.{length, take, drop}
 use lib.Seq.{sets}
 use Rattle.kinds.specs.declared.record.Lengths.{Lengths}
 use Rattle.session.specs.Lent.{lent, lengthsOf}
 use Rattle.session.specs.declared.Reply.{Reply}
 use Rattle.session.specs.declared.Reply.the-variants.{Silent, Says, NoRoom}
-use Rattle.replay.specs.Feed.{free, stuck, closable, taken}
+use Rattle.replay.specs.Feed.{free, closable, taken, ran, later, run}
 use Rattle.replay.specs.Replay.{textOf, countAfter}
-use Rattle.replay.specs.Stream.{Stream, lineKept, ended, ending, fed, said, fedAll, saidAll, closing, closed, begin}
+use Rattle.replay.specs.Stream.{Stream, lineKept, before, heldAll, ended, ending, fedAll, saidAll, closing, closed, begin}
 use Rattle.replay.specs.Whole.{Whole}
 use Rattle.replay.specs.declared.Closed.{Closed}
 use Rattle.replay.specs.declared.Fed.{Fed}
@@ -53,11 +54,17 @@ pub record EndedTo (k : Lengths) (s : Stream) (a : ℕ) (o : List ℕ) (went : B
   pub at : z ≡ cond (free k s a (length o)) (a + length (ending s)) a
   pub out : x ≡ cond (free k s a (length o)) (sets o a (ending s)) o
 
-pub record TookTo (k : Lengths) (s : Stream) (a : ℕ) (o : List ℕ) (b : ℕ) (went : Bool) (t : Stream) (z : ℕ) (x : List ℕ) : Type 0 where
-  pub could : stuck k s a (length o) b ≡ not went
-  pub stream : t ≡ cond went (fed s b) s
-  pub at : z ≡ cond went (a + length (said s b)) a
-  pub out : x ≡ cond went (sets o a (said s b)) o
+pub record KeptTo (p l : List ℕ) (i j : ℕ) (q : List ℕ) (n : ℕ) : Type 0 where
+  pub next : j ≡ i + before (drop i l)
+  pub kept : q ≡ heldAll p (take (before (drop i l)) (drop i l))
+  pub few : n ≤ lineKept
+
+pub record MovedTo (k : Lengths) (s : Stream) (a : ℕ) (o l : List ℕ) (i : ℕ) (went : Bool) (t : Stream) (z : ℕ) (x : List ℕ) (j : ℕ) : Type 0 where
+  pub bytes : ℕ
+  pub next : j ≡ i + bytes
+  pub within : j ≤ length l
+  pub some : went ≡ true → 0 < bytes
+  pub same : run k s a o (drop i l) ≡ later bytes (cond went (run k t z x (drop j l)) (ran t z x 0))
 
 pub record FedTo (k : Lengths) (s : Stream) (a : ℕ) (o l : List ℕ) (n : ℕ) (t : Stream) (z : ℕ) (x : List ℕ) : Type 0 where
   pub bytes : n ≡ taken k s a (length o) l

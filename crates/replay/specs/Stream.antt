@@ -1,6 +1,7 @@
 -- A replay byte by byte.
 --     Stream              the first bytes of the line that has not ended, the count of output lines, and the session
 --     held p b            the line's first bytes after one more: a line's first 128 bytes tell what it says
+--     before l            the count of bytes of l before its first line feed; heldAll p l: the line's first bytes after all of l
 --     ended s             the stream after the end of its line; ending s: what that writes
 --     fed s b             the stream after byte b; said s b: what that writes
 --     fedAll, saidAll     of a list of bytes
@@ -9,7 +10,7 @@
 -- Assumes nothing.
 use mathlib.Core.Bool.{cond}
 use mathlib.Core.List.{List, [], _∷_, _++_}
-use Prim.Native.Nat.{ℕ}
+use Prim.Native.Nat.{ℕ, suc}
 use lib.Dec.{ltb, eqb}
 use lib.ListN.{length}
 use Rattle.lines.specs.Line.{lineOf}
@@ -27,6 +28,15 @@ lineKept = 128
 
 abbrev pub held : List ℕ → ℕ → List ℕ
 held p b = cond (ltb (length p) lineKept) (p ++ (b ∷ [])) p
+
+-- the bytes of a list before its first line feed, and a line's first bytes after a list of bytes more
+unfoldable pub before : List ℕ → ℕ
+before [] = 0
+before (b ∷ l) = cond (eqb b lineFeed) 0 (suc (before l))
+
+unfoldable pub heldAll : List ℕ → List ℕ → List ℕ
+heldAll p [] = p
+heldAll p (b ∷ l) = heldAll (held p b) l
 
 abbrev pub reply : Stream → Reply
 reply s = replyTo (s .session) (lineOf (s .pending))

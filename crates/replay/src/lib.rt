@@ -11,14 +11,14 @@ ghost use mathlib.Core.Path.{_≡_};
 ghost use mathlib.Core.Bool.{_&&_};
 ghost use Prim.Native.Nat.{_+_, _≤_, _<_};
 ghost use lib.Dec.{ltb, leb};
-ghost use lib.ListN.{length};
+ghost use lib.ListN.{length, take};
 ghost use lib.Seq.{sets};
 ghost use Rattle.report.specs.Text.{answerLine, lineMost};
 ghost use Rattle.session.specs.Lent.{lengthsOf};
 ghost use Rattle.replay.specs.Feed.{lastCount};
 ghost use Rattle.replay.specs.Replay.{textOf};
 ghost use Rattle.replay.specs.Stream.{lineKept};
-ghost use Rattle.replay.specs.Promise.{EndedTo, FedAs, FedTo, FinishedAs, Started, TookTo, buffers, closedBy, streamOf};
+ghost use Rattle.replay.specs.Promise.{EndedTo, FedAs, FedTo, FinishedAs, KeptTo, MovedTo, Started, buffers, closedBy, streamOf};
 
 // The bytes of a line that are kept: a longer line is bad, and so are its first bytes.
 pub const LINE_KEPT: usize = 128;
@@ -59,6 +59,20 @@ struct Taken {
     progress: Progress,
     bytes: usize,
     at: usize,
+}
+
+// How many bytes of the line are kept, and the place of the input after them.
+struct Kept {
+    pending: usize,
+    next: usize,
+}
+
+// Where the replay stands after a line's bytes, the place of the input after them, and whether the line, if it ended, went.
+struct Moved {
+    progress: Progress,
+    at: usize,
+    next: usize,
+    went: bool,
 }
 
 // The end of the output and the count of its lines after a reply, and whether the line went.
@@ -190,21 +204,37 @@ fn end_line(
     }
 }
 
-// One more byte kept of the line that has not ended.
-fn longer(progress: Progress) -> Progress
-    requires { ⌜ progress .pending < lineKept ⌝ }
-    ensures { λ r. ⌜ r ≡ record { extent = progress .extent; pending = progress .pending + 1; count = progress .count } ⌝ }
+// The bytes of a line from place `from` of the input on, kept after those that are pending.
+fn keep(line: &mut [u8], pending: usize, input: &[u8], from: usize) -> Kept
+    requires { ⌜ (length (now line) ≡ lineKept) × (pending ≤ lineKept) × (from ≤ length (now input)) ⌝ }
+    ensures { λ r. ⌜ KeptTo (take pending (now (line .entry))) (now (input .entry)) from (r .next) (take (r .pending) (now (line .exit))) (r .pending) ⌝ }
 {
-    let extent = progress.extent;
-    Progress {
-        extent,
-        pending: progress.pending + 1,
-        count: progress.count,
+    let mut end = pending;
+    let mut i = from;
+    while i < input.len() {
+        let byte = input[i];
+        if byte == LINE_FEED {
+            return Kept {
+                pending: end,
+                next: i,
+            };
+        }
+        if end < LINE_KEPT {
+            line[end] = byte;
+            end += 1;
+            i += 1;
+        } else {
+            i += 1;
+        }
+    }
+    Kept {
+        pending: end,
+        next: i,
     }
 }
 
-// One byte of an input.
-fn take_byte(
+// The bytes of an input from place `from` on, up to the end of a line.
+fn take_line(
     progress: Progress,
     requesters: &mut [u16],
     entries: &mut [u64],
@@ -215,16 +245,25 @@ fn take_byte(
     segments: &mut [u16],
     state: &mut [u64],
     line: &mut [u8],
+    input: &[u8],
+    from: usize,
     out: &mut [u8],
     at: usize,
-    byte: u8,
-) -> Ended
-    requires { ⌜ (length (now line) ≡ lineKept) × (progress .pending ≤ lineKept) ⌝ }
-    ensures { λ r. ⌜ (TookTo (lengthsOf (now (requesters .entry)) (now (entries .entry)) (now (memory .entry)) (now (peers .entry)) (now (interrupts .entry)) (now (windows .entry)) (now (segments .entry)) (now (state .entry))) (streamOf progress (now (line .entry)) (now (requesters .entry)) (now (entries .entry)) (now (memory .entry)) (now (peers .entry)) (now (interrupts .entry)) (now (windows .entry)) (now (segments .entry)) (now (state .entry))) at (now (out .entry)) byte (r .went) (streamOf (r .progress) (now (line .exit)) (now (requesters .exit)) (now (entries .exit)) (now (memory .exit)) (now (peers .exit)) (now (interrupts .exit)) (now (windows .exit)) (now (segments .exit)) (now (state .exit))) (r .at) (now (out .exit))) × (r .progress .pending ≤ lineKept) ⌝ }
+) -> Moved
+    requires { ⌜ (length (now line) ≡ lineKept) × (progress .pending ≤ lineKept) × (from < length (now input)) ⌝ }
+    ensures { λ r. ⌜ (MovedTo (lengthsOf (now (requesters .entry)) (now (entries .entry)) (now (memory .entry)) (now (peers .entry)) (now (interrupts .entry)) (now (windows .entry)) (now (segments .entry)) (now (state .entry))) (streamOf progress (now (line .entry)) (now (requesters .entry)) (now (entries .entry)) (now (memory .entry)) (now (peers .entry)) (now (interrupts .entry)) (now (windows .entry)) (now (segments .entry)) (now (state .entry))) at (now (out .entry)) (now (input .entry)) from (r .went) (streamOf (r .progress) (now (line .exit)) (now (requesters .exit)) (now (entries .exit)) (now (memory .exit)) (now (peers .exit)) (now (interrupts .exit)) (now (windows .exit)) (now (segments .exit)) (now (state .exit))) (r .at) (now (out .exit)) (r .next)) × (r .progress .pending ≤ lineKept) ⌝ }
 {
-    if byte == LINE_FEED {
-        return end_line(
-            progress,
+    let kept = keep(line, progress.pending, input, from);
+    let extent = progress.extent;
+    let held = Progress {
+        extent,
+        pending: kept.pending,
+        count: progress.count,
+    };
+    let next = kept.next;
+    if next < input.len() {
+        let ended = end_line(
+            held,
             requesters,
             entries,
             memory,
@@ -237,19 +276,26 @@ fn take_byte(
             out,
             at,
         );
-    }
-    let pending = progress.pending;
-    if pending < LINE_KEPT {
-        line[pending] = byte;
-        return Ended {
-            progress: longer(progress),
-            at,
-            went: true,
+        let after = ended.progress;
+        if ended.went {
+            return Moved {
+                progress: after,
+                at: ended.at,
+                next: next + 1,
+                went: true,
+            };
+        }
+        return Moved {
+            progress: after,
+            at: ended.at,
+            next,
+            went: false,
         };
     }
-    Ended {
-        progress,
+    Moved {
+        progress: held,
         at,
+        next,
         went: true,
     }
 }
@@ -277,7 +323,7 @@ fn take_bytes(
     let mut end = at;
     let mut i = 0;
     while i < input.len() {
-        let took = take_byte(
+        let moved = take_line(
             p,
             requesters,
             entries,
@@ -288,20 +334,21 @@ fn take_bytes(
             segments,
             state,
             line,
+            input,
+            i,
             out,
             end,
-            input[i],
         );
-        let next = took.progress;
-        if took.went {
-            p = next;
-            end = took.at;
-            i += 1;
+        let after = moved.progress;
+        if moved.went {
+            p = after;
+            end = moved.at;
+            i = moved.next;
         } else {
             return Taken {
-                progress: next,
-                bytes: i,
-                at: took.at,
+                progress: after,
+                bytes: moved.next,
+                at: moved.at,
             };
         }
     }
