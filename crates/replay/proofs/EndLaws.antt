@@ -1,17 +1,18 @@
 -- What the end of a line cites.
 --     line-fits                               where there is room for a line, it can be written
---     ended-went, ended-none, ended-full      it went; the tables, or the output and the count, have no room
+--     ended-ran, ended-full                   it ran; the output or the count has no room
 -- Assumes nothing.
 use mathlib.Core.Path.{_≡_, refl, sym, ap, _∙_}
 use mathlib.Core.Bool.{Bool, true, false, cond, _&&_}
-use mathlib.Core.List.{List, []}
+use mathlib.Core.List.{List}
 use Prim.Native.Nat.{ℕ, _+_, _≤_, _<_}
 use native.Mathlib.Nat.{add-zero}
+use native.Mathlib.Omega.{arith}
 use lib.Dec.{ltb, leb}
-use lib.ListN.{length}
+use lib.ListN.{length, take}
 use lib.Seq.{sets}
 use borrow.Author.Tests.{ltb-true, leb-true}
-use Rattle.kinds.specs.Tests.{by-cases, clash, and-left, and-right}
+use Rattle.kinds.specs.Tests.{by-cases, and-left, and-right}
 use Rattle.kinds.specs.declared.record.Lengths.{Lengths}
 use Rattle.lines.specs.Line.{lineOf}
 use Rattle.lines.specs.declared.Line.{Line}
@@ -21,12 +22,11 @@ use Rattle.session.specs.Lent.{roomFor}
 use Rattle.session.specs.Promise.{RanLine}
 use Rattle.session.specs.Session.{Session, settable, replyTo}
 use Rattle.session.specs.declared.Reply.{Reply}
-use Rattle.session.specs.declared.Reply.the-variants.{Silent, Says, NoRoom}
+use Rattle.session.specs.declared.Reply.the-variants.{NoRoom}
 use Rattle.replay.specs.Feed.{lastCount, free}
-use Rattle.replay.specs.Promise.{EndedTo, wentBy, closedBy}
+use Rattle.replay.specs.Promise.{EndedTo, wentBy}
 use Rattle.replay.specs.Replay.{textOf, countAfter}
 use Rattle.replay.specs.Stream.{Stream, ended, ending}
-use Rattle.replay.specs.declared.Closed.{Closed}
 
 -- every reply of the definition is one that goes
 replies-go : (s : Session) (l : Line) → wentBy (replyTo s l) ≡ true
@@ -64,26 +64,31 @@ module _ (k : Lengths) (s : Stream) (a : ℕ) (o : List ℕ) {h : Bool} (asked :
       none : r ≡ NoRoom
       none = ran .replies ∙ rw b
 
-    module _ {c : Closed} {p : List ℕ} (closed : (c ≡ closedBy a (s .count) r) × (p ≡ sets o a (textOf (s .count) r))) where
-      pub ended-went : c .went ≡ true → EndedTo k s a o true (record { pending = []; count = c .count; session = t }) (c .at) p
-      unfolding ended ending
-      ended-went w =
-          by-cases (roomFor l k)
-          (λ b. record {
-            could = sym (goes b);
-            stream = rw (goes b, closed .0, replied b, ran .leaves, b, said);
-            at = rw (goes b, closed .0, replied b);
-            out = rw (goes b, closed .1, replied b);
-          })
-          (λ b. clash w (ap (λ (x : Closed). x .went) (closed .0) ∙ ap wentBy (none b)))
+    -- the line was the first n bytes of b
+    module _ (b : List ℕ) (n : ℕ) (e : s .pending ≡ take n b) where
+      abbrev after : Stream
+      after = record { pending = take (cond (wentBy r) 0 n) b; count = countAfter (s .count) r; session = t }
 
-      pub ended-none : c .went ≡ false → EndedTo k s a o false (record { pending = s .pending; count = s .count; session = t }) a p
-      ended-none w =
+      pub ended-ran : EndedTo k s a o (wentBy r) after (a + length (textOf (s .count) r)) (sets o a (textOf (s .count) r))
+      unfolding ended ending
+      ended-ran =
           by-cases (roomFor l k)
-          (λ b. clash (ap (λ (x : Closed). x .went) (closed .0) ∙ ap wentBy (replied b) ∙ replies-go _ _) w)
-          (λ b. record {
-            could = sym (stays b);
-            stream = rw (stays b, ran .leaves, b);
-            at = rw (stays b);
-            out = rw (stays b, closed .1, none b);
+          (λ f.
+          let g : wentBy r ≡ true = ap wentBy (replied f) ∙ replies-go _ _ in
+          record {
+            could = g ∙ sym (goes f);
+            stream = rw (goes f, g, replied f, ran .leaves, f, said);
+            at = rw (goes f, replied f);
+            out = rw (goes f, replied f);
           })
+          (λ f. record {
+            could = rw (stays f, none f);
+            stream = rw (stays f, none f, ran .leaves, f, e);
+            at = rw (stays f, none f, add-zero a);
+            out = rw (stays f, none f);
+          })
+
+-- no more is pending than was
+pub pending-less : (n : ℕ) (b : Bool) → cond b 0 n ≤ n
+pending-less n true = omega arith
+pending-less n false = omega arith

@@ -1,24 +1,24 @@
 -- What the functions over the bytes of an input cite.
 --     keep-start, keep-byte, keep-over, keep-feed, keep-done      the bytes of a line: what is kept from the start is what is kept from here
---     moved-end, moved-stop, moved-all    a line that ended, one that could not, and an input that ended before its line
+--     moved-feed, moved-all               a line feed, and an input that ended before one
 --     run-start, run-more, run-stop, run-done     the lines of an input: the run from the start is the run from here, i bytes later
 --     lengths-same                        lists of the same lengths
 -- Assumes nothing.
 use mathlib.Core.Path.{_≡_, refl, sym, ap, subst, _∙_}
-use mathlib.Core.Bool.{Bool, true, false, cond, not}
-use mathlib.Core.List.{List, [], _∷_, _++_}
-use Prim.Native.Nat.{ℕ, zero, suc, _+_, _≤_, _<_}
+use mathlib.Core.Bool.{Bool, true, false, cond}
+use mathlib.Core.List.{List, [], _∷_}
+use Prim.Native.Nat.{ℕ, suc, _+_, _≤_, _<_}
 use native.Mathlib.Nat.{add-zero, zero-add, add-assoc, add-suc, suc-add}
 use native.Mathlib.Numerals.{add-one}
 use native.Mathlib.Omega.{arith}
-use lib.Dec.{ltb, eqb}
+use lib.Dec.{eqb}
 use lib.ListN.{length, take, drop, getD, set, drop-of-length-le, length-drop}
 use lib.Seq.{sets, drop-cons, drop-drop, take-suc-set, length-take-le, getD-drop}
-use borrow.Author.Tests.{eq-eqb, ne-eqb, lt-ltb, le-ltb, eqb-true}
+use borrow.Author.Tests.{ne-eqb, lt-ltb, le-ltb, eqb-true}
 use Rattle.kinds.specs.Tests.{by-cases, clash}
 use Rattle.kinds.specs.declared.record.Lengths.{Lengths}
 use Rattle.session.specs.Session.{Session}
-use Rattle.replay.specs.Feed.{free, stuck, Run, ran, later, run}
+use Rattle.replay.specs.Feed.{free, Run, ran, later, run}
 use Rattle.replay.specs.FeedLaws.{Ran, run-fed}
 use Rattle.replay.specs.Promise.{EndedTo, KeptTo, MovedTo, FedTo}
 use Rattle.replay.specs.Replay.{lineFeed}
@@ -142,7 +142,7 @@ module _ (k : Lengths) (c : ℕ) (s : Session) (a : ℕ) (o : List ℕ) {p l : L
         drop-cons l j 0 f ∙ rw e
 
     module _ {u : Stream} {y : ℕ} {v : List ℕ} where
-      pub moved-end : EndedTo k (line k c s a o q) a o true u y v → MovedTo k (line k c s a o p) a o l i true u y v (j + 1)
+      moved-end : EndedTo k (line k c s a o q) a o true u y v → MovedTo k (line k c s a o p) a o l i true u y v (j + 1)
       moved-end d =
           record {
             bytes = before (drop i l) + 1;
@@ -152,7 +152,7 @@ module _ (k : Lengths) (c : ℕ) (s : Session) (a : ℕ) (o : List ℕ) {p l : L
             same = run-there ∙ rw (feed-there, run-ended k (line k c s a o q) a o (drop (suc j) l) d, add-one j) (later-more (before (drop i l)) 1 (run k u y v (drop (suc j) l)) ∙ rw (add-one (before (drop i l))));
           }
 
-      pub moved-stop : EndedTo k (line k c s a o q) a o false u y v → MovedTo k (line k c s a o p) a o l i false u y v j
+      moved-stop : EndedTo k (line k c s a o q) a o false u y v → MovedTo k (line k c s a o p) a o l i false u y v j
       moved-stop d =
           record {
             bytes = before (drop i l);
@@ -161,6 +161,11 @@ module _ (k : Lengths) (c : ℕ) (s : Session) (a : ℕ) (o : List ℕ) {p l : L
             some = λ w. clash {b = false} w refl;
             same = run-there ∙ rw (feed-there, run-stuck k (line k c s a o q) a o (drop (suc j) l) d);
           }
+
+    pub moved-feed : {went : Bool} {u : Stream} {y : ℕ} {v : List ℕ} → EndedTo k (line k c s a o q) a o went u y v →
+        MovedTo k (line k c s a o p) a o l i went u y v (cond went (j + 1) j)
+    moved-feed {went = true} d = moved-end d
+    moved-feed {went = false} d = moved-stop d
 
 pub lengths-same : {a b c d e f g h : ℕ} (a' b' c' d' e' f' g' h' : ℕ) → a ≡ a' → b ≡ b' → c ≡ c' → d ≡ d' → e ≡ e' → f ≡ f' → g ≡ g' → h ≡ h' →
     _≡_ {A = Lengths}

@@ -1,16 +1,16 @@
 -- A run by its parts.
 --     run-fed             how many bytes a run takes, and what they leave and write
 -- Assumes nothing.
-use mathlib.Core.Path.{_≡_, refl, sym, ap, _∙_}
-use mathlib.Core.List.{List, [], _∷_, _++_}
+use mathlib.Core.Path.{refl, sym, ap, _∙_}
+use mathlib.Core.List.{List, [], _∷_}
 use Prim.Native.Nat.{ℕ, suc, _+_}
 use native.Mathlib.Nat.{add-zero, add-assoc, suc-add, zero-add}
-use lib.ListN.{length, take, length-append}
+use lib.ListN.{length, length-append}
 use lib.Seq.{sets, length-sets}
 use Rattle.kinds.specs.Tests.{by-cases}
 use Rattle.kinds.specs.declared.record.Lengths.{Lengths}
 use Rattle.report.specs.WrittenLaws.{sets-append}
-use Rattle.replay.specs.Feed.{free, stuck, taken, Run, ran, run}
+use Rattle.replay.specs.Feed.{stuck, taken, Run, run}
 use Rattle.replay.specs.Promise.{FedTo}
 use Rattle.replay.specs.Stream.{Stream, fed, said, fedAll, saidAll}
 use Rattle.replay.specs.Whole.{whole}

@@ -4,6 +4,7 @@
 --     EndedTo k s a o ..      the same of the end of a line: whether it could end, and then
 --     KeptTo p l i j q n      from place i of input l to place j, the bytes up to a line feed or the end were kept after p: q, n bytes of it at most
 --     MovedTo k s a o l i ..  the same from place i to place j, with the line feed if its line could end
+--     endedBy, movedBy, finishedBy    what the end of a line makes of the line, of its line feed and of the end of the input
 --     closedBy a n r          the end of the output and the count of its lines after reply r, and whether the line went
 --     Buffers, buffers        all lent lists; streamIn p b, roomIn b: the stream and the lengths that they are
 --     Started p               progress p is before the first byte, whatever the lent lists hold
@@ -20,6 +21,7 @@ use lib.ListN.{length, take, drop}
 use lib.Seq.{sets}
 use Rattle.kinds.specs.declared.record.Lengths.{Lengths}
 use Rattle.session.specs.Lent.{lent, lengthsOf}
+use Rattle.session.specs.declared.Ran.{Ran}
 use Rattle.session.specs.declared.Reply.{Reply}
 use Rattle.session.specs.declared.Reply.the-variants.{Silent, Says, NoRoom}
 use Rattle.replay.specs.Feed.{free, closable, taken, ran, later, run}
@@ -27,10 +29,12 @@ use Rattle.replay.specs.Replay.{textOf, countAfter}
 use Rattle.replay.specs.Stream.{Stream, lineKept, before, heldAll, ended, ending, fedAll, saidAll, closing, closed, begin}
 use Rattle.replay.specs.Whole.{Whole}
 use Rattle.replay.specs.declared.Closed.{Closed}
+use Rattle.replay.specs.declared.Ended.{Ended}
 use Rattle.replay.specs.declared.Fed.{Fed}
 use Rattle.replay.specs.declared.Fed.the-variants.{To, Unfit}
 use Rattle.replay.specs.declared.Finished.{Finished}
 use Rattle.replay.specs.declared.Finished.the-variants.{To as FinishedTo, NoRoom as NoRoomLeft, Unfit as UnfitToo}
+use Rattle.replay.specs.declared.Moved.{Moved}
 use Rattle.replay.specs.declared.Progress.{Progress}
 
 abbrev pub streamOf : Progress → List ℕ → (requesters entries memory peers interrupts windows segments state : List ℕ) → Stream
@@ -47,6 +51,21 @@ wentBy NoRoom = false
 
 abbrev pub closedBy : (a n : ℕ) → Reply → Closed
 closedBy a n r = record { at = a + length (textOf n r); count = countAfter n r; went = wentBy r }
+
+-- the end of a line that ran, by what it wrote
+abbrev pub endedBy : (a pending n : ℕ) → Ran → Ended
+endedBy a b n r = record {
+  progress = record { extent = r .extent; pending = cond (wentBy (r .reply)) 0 b; count = countAfter n (r .reply) };
+  at = a + length (textOf n (r .reply));
+  went = wentBy (r .reply);
+}
+
+-- a line feed at place j of the input, and the end of the input, by the end of their line
+abbrev pub movedBy : Ended → ℕ → Moved
+movedBy e j = record { progress = e .progress; at = e .at; next = cond (e .went) (j + 1) j; went = e .went }
+
+abbrev pub finishedBy : Ended → Finished
+finishedBy e = cond (e .went) (FinishedTo (e .progress) (e .at)) (NoRoomLeft (e .progress))
 
 pub record EndedTo (k : Lengths) (s : Stream) (a : ℕ) (o : List ℕ) (went : Bool) (t : Stream) (z : ℕ) (x : List ℕ) : Type 0 where
   pub could : went ≡ free k s a (length o)

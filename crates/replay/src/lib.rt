@@ -6,11 +6,12 @@ use report;
 use report::Written;
 use session;
 use session::Extent;
+use session::Ran;
 use session::Reply;
 ghost use mathlib.Core.Path.{_≡_};
 ghost use mathlib.Core.Bool.{_&&_};
-ghost use Prim.Native.Nat.{_+_, _≤_, _<_};
-ghost use lib.Dec.{ltb, leb};
+ghost use Prim.Native.Nat.{_+_, _^_, _≤_, _<_};
+ghost use lib.Dec.{eqb, ltb, leb};
 ghost use lib.ListN.{length, take};
 ghost use lib.Seq.{sets};
 ghost use Rattle.report.specs.Text.{answerLine, lineMost};
@@ -18,7 +19,7 @@ ghost use Rattle.session.specs.Lent.{lengthsOf};
 ghost use Rattle.replay.specs.Feed.{lastCount};
 ghost use Rattle.replay.specs.Replay.{textOf};
 ghost use Rattle.replay.specs.Stream.{lineKept};
-ghost use Rattle.replay.specs.Promise.{EndedTo, FedAs, FedTo, FinishedAs, KeptTo, MovedTo, Started, buffers, closedBy, streamOf};
+ghost use Rattle.replay.specs.Promise.{EndedTo, FedAs, FedTo, FinishedAs, KeptTo, MovedTo, Started, buffers, closedBy, endedBy, finishedBy, movedBy, streamOf};
 
 // The bytes of a line that are kept: a longer line is bad, and so are its first bytes.
 pub const LINE_KEPT: usize = 128;
@@ -140,6 +141,36 @@ fn answer_line(out: &mut [u8], at: usize, count: u64, reply: Reply) -> Closed
     }
 }
 
+// The end of a line that ran.
+fn close_line(out: &mut [u8], at: usize, pending: usize, count: u64, ran: Ran) -> Ended
+    requires { ⌜ (at + lineMost ≤ length (now out)) × (count < lastCount) ⌝ }
+    ensures { λ r. ⌜ (r ≡ endedBy at pending count ran) × (now (out .exit) ≡ sets (now (out .entry)) at (textOf count (ran .reply))) ⌝ }
+{
+    let extent = ran.extent;
+    let reply = ran.reply;
+    let closed = answer_line(out, at, count, reply);
+    if closed.went {
+        return Ended {
+            progress: Progress {
+                extent,
+                pending: 0,
+                count: closed.count,
+            },
+            at: closed.at,
+            went: true,
+        };
+    }
+    Ended {
+        progress: Progress {
+            extent,
+            pending,
+            count,
+        },
+        at,
+        went: false,
+    }
+}
+
 // The end of a line.
 fn end_line(
     progress: Progress,
@@ -173,29 +204,7 @@ fn end_line(
             state,
             lines::parse(&line[..pending]),
         );
-        let extent = ran.extent;
-        let reply = ran.reply;
-        let closed = answer_line(out, at, count, reply);
-        if closed.went {
-            return Ended {
-                progress: Progress {
-                    extent,
-                    pending: 0,
-                    count: closed.count,
-                },
-                at: closed.at,
-                went: true,
-            };
-        }
-        return Ended {
-            progress: Progress {
-                extent,
-                pending,
-                count,
-            },
-            at,
-            went: false,
-        };
+        return close_line(out, at, pending, count, ran);
     }
     Ended {
         progress,
@@ -230,6 +239,28 @@ fn keep(line: &mut [u8], pending: usize, input: &[u8], from: usize) -> Kept
     Kept {
         pending: end,
         next: i,
+    }
+}
+
+// The line feed at place `next` of the input was taken if its line went.
+fn moved_by(ended: Ended, next: usize) -> Moved
+    requires { ⌜ next < 2 ^ 63 ⌝ }
+    ensures { λ r. ⌜ r ≡ movedBy ended next ⌝ }
+{
+    let progress = ended.progress;
+    if ended.went {
+        return Moved {
+            progress,
+            at: ended.at,
+            next: next + 1,
+            went: true,
+        };
+    }
+    Moved {
+        progress,
+        at: ended.at,
+        next,
+        went: false,
     }
 }
 
@@ -276,21 +307,7 @@ fn take_line(
             out,
             at,
         );
-        let after = ended.progress;
-        if ended.went {
-            return Moved {
-                progress: after,
-                at: ended.at,
-                next: next + 1,
-                went: true,
-            };
-        }
-        return Moved {
-            progress: after,
-            at: ended.at,
-            next,
-            went: false,
-        };
+        return moved_by(ended, next);
     }
     Moved {
         progress: held,
@@ -377,6 +394,30 @@ pub fn start() -> Progress
     }
 }
 
+// Whether the line's buffer has 128 bytes, and no more are pending.
+fn fit(length: usize, pending: usize) -> bool
+    ensures { λ r. ⌜ r ≡ (eqb length lineKept && leb pending lineKept) ⌝ }
+{
+    if length != LINE_KEPT {
+        return false;
+    }
+    pending <= LINE_KEPT
+}
+
+// What the end of the last line makes of the end of the input.
+fn finished_by(ended: Ended) -> Finished
+    ensures { λ r. ⌜ r ≡ finishedBy ended ⌝ }
+{
+    let progress = ended.progress;
+    if ended.went {
+        return Finished::To {
+            progress,
+            at: ended.at,
+        };
+    }
+    Finished::NoRoom { progress }
+}
+
 // A piece of the input.
 pub fn feed(
     progress: Progress,
@@ -395,33 +436,30 @@ pub fn feed(
 ) -> Fed
     ensures { λ r. ⌜ FedAs progress (buffers (now (requesters .entry)) (now (entries .entry)) (now (memory .entry)) (now (peers .entry)) (now (interrupts .entry)) (now (windows .entry)) (now (segments .entry)) (now (state .entry)) (now (line .entry)) (now (out .entry))) at (now (input .entry)) r (buffers (now (requesters .exit)) (now (entries .exit)) (now (memory .exit)) (now (peers .exit)) (now (interrupts .exit)) (now (windows .exit)) (now (segments .exit)) (now (state .exit)) (now (line .exit)) (now (out .exit))) ⌝ }
 {
-    if line.len() != LINE_KEPT {
-        return Fed::Unfit;
+    if fit(line.len(), progress.pending) {
+        let taken = take_bytes(
+            progress,
+            requesters,
+            entries,
+            memory,
+            peers,
+            interrupts,
+            windows,
+            segments,
+            state,
+            line,
+            input,
+            out,
+            at,
+        );
+        let next = taken.progress;
+        return Fed::To {
+            progress: next,
+            bytes: taken.bytes,
+            at: taken.at,
+        };
     }
-    if LINE_KEPT < progress.pending {
-        return Fed::Unfit;
-    }
-    let taken = take_bytes(
-        progress,
-        requesters,
-        entries,
-        memory,
-        peers,
-        interrupts,
-        windows,
-        segments,
-        state,
-        line,
-        input,
-        out,
-        at,
-    );
-    let next = taken.progress;
-    Fed::To {
-        progress: next,
-        bytes: taken.bytes,
-        at: taken.at,
-    }
+    Fed::Unfit
 }
 
 // The end of the input: what follows the last line feed is a line if it is not empty.
@@ -441,35 +479,25 @@ pub fn finish(
 ) -> Finished
     ensures { λ r. ⌜ FinishedAs progress (buffers (now (requesters .entry)) (now (entries .entry)) (now (memory .entry)) (now (peers .entry)) (now (interrupts .entry)) (now (windows .entry)) (now (segments .entry)) (now (state .entry)) (now (line .entry)) (now (out .entry))) at r (buffers (now (requesters .exit)) (now (entries .exit)) (now (memory .exit)) (now (peers .exit)) (now (interrupts .exit)) (now (windows .exit)) (now (segments .exit)) (now (state .exit)) (now (line .entry)) (now (out .exit))) ⌝ }
 {
-    if line.len() != LINE_KEPT {
-        return Finished::Unfit;
+    if fit(line.len(), progress.pending) {
+        if progress.pending == 0 {
+            return Finished::To { progress, at };
+        }
+        let ended = end_line(
+            progress,
+            requesters,
+            entries,
+            memory,
+            peers,
+            interrupts,
+            windows,
+            segments,
+            state,
+            line,
+            out,
+            at,
+        );
+        return finished_by(ended);
     }
-    if LINE_KEPT < progress.pending {
-        return Finished::Unfit;
-    }
-    if progress.pending == 0 {
-        return Finished::To { progress, at };
-    }
-    let ended = end_line(
-        progress,
-        requesters,
-        entries,
-        memory,
-        peers,
-        interrupts,
-        windows,
-        segments,
-        state,
-        line,
-        out,
-        at,
-    );
-    let next = ended.progress;
-    if ended.went {
-        return Finished::To {
-            progress: next,
-            at: ended.at,
-        };
-    }
-    Finished::NoRoom { progress: next }
+    Finished::Unfit
 }

@@ -1,19 +1,17 @@
 -- `replay::feed` meets its contract. Assumes nothing.
-use mathlib.Core.Path.{refl, sym, _∙_}
+use mathlib.Core.Path.{refl}
 use denote.Ref.{now}
+use Rattle.replay.specs.Promise.{buffers}
 use Rattle.replay.proofs.FeedLaws as laws
 use borrow.Author.Needs.{needs}
 use Rattle.replay.proofs.feed.Statement.{statement}
 use Rattle.replay.proofs.feed.Tie as tie
 
-returns : tie.Need-returns
-returns c = (laws.unfit-buffer (now (c .before .before .before .before .before .before .before .before .before .before .before .before .args .line)) (c .before .before .before .before .before .before .before .before .before .before .before .before .args .progress) (c .if1 .taken), refl)
-
-returns-2 : tie.Need-returns-2
-returns-2 c = (laws.unfit-pending (now (c .before .before .before .before .before .before .before .before .before .before .before .before .before .before .args .line)) (c .before .before .before .before .before .before .before .before .before .before .before .before .before .before .args .progress) (c .before .before .if1 .left) (c .if2 .taken), refl)
+fit-requires : tie.Need-fit-requires
+fit-requires c κs = search needs
 
 take-bytes-requires : tie.Need-take-bytes-requires
-take-bytes-requires c κs = search needs
+take-bytes-requires c κs = laws.fit-both _ _ (c .before .before .before .before .before .before .before .before .before .before .before .fit .ensures) (c .before .before .before .before .before .before .before .before .before .before .if1 .taken)
 
 same-length : tie.Need-same-length
 same-length c = search needs
@@ -45,15 +43,21 @@ same-length-9 c = search needs
 same-length-10 : tie.Need-same-length-10
 same-length-10 c = search needs
 
-returns-3 : tie.Need-returns-3
-returns-3 c = (laws.fit (now (c .before .before .before .before .before .before .before .before .before .before .before .before .before .before .before .before .before .before .before .before .before .before .before .before .before .before .before .before .before .before .before .before .before .before .before .before .before .before .before .before .before .before .before .before .before .before .args .line)) (c .before .before .before .before .before .before .before .before .before .before .before .before .before .before .before .before .before .before .before .before .before .before .before .before .before .before .before .before .before .before .before .before .before .before .before .before .before .before .before .before .before .before .before .before .before .before .args .progress) (c .before .before .before .before .before .before .before .before .before .before .before .before .before .before .before .before .before .before .before .before .before .before .before .before .before .before .before .before .before .before .before .before .before .before .if1 .left) (c .before .before .before .before .before .before .before .before .before .before .before .before .before .before .before .before .before .before .before .before .before .before .before .before .before .before .before .before .before .before .before .before .if2 .left), c .before .before .before .before .before .before .before .before .before .before .before .before .before .before .before .before .before .before .before .before .before .take-bytes .ensures)
+returns : tie.Need-returns
+returns c =
+    let given = c .before .before .before .before .before .before .before .before .before .before .before .before .before .before .before .before .before .before .before .before .before .before .before .before .before .before .before .before .before .before .before .before .before .before .before .before .before .before .before .before .before .before .before .before .before .args in
+    (laws.fit (given .progress) (buffers (now (given .requesters)) (now (given .entries)) (now (given .memory)) (now (given .peers)) (now (given .interrupts)) (now (given .windows)) (now (given .segments)) (now (given .state)) (now (given .line)) (now (given .out))) (given .at) (c .before .before .before .before .before .before .before .before .before .before .before .before .before .before .before .before .before .before .before .before .before .before .before .before .before .before .before .before .before .before .before .before .before .fit .ensures) (c .before .before .before .before .before .before .before .before .before .before .before .before .before .before .before .before .before .before .before .before .before .before .before .before .before .before .before .before .before .before .before .before .if1 .taken), c .before .before .before .before .before .before .before .before .before .before .before .before .before .before .before .before .before .before .before .before .before .take-bytes .ensures)
+
+returns-2 : tie.Need-returns-2
+returns-2 c =
+    let given = c .before .before .before .before .before .before .before .before .before .before .before .before .before .args in
+    (laws.unfit (given .progress) (buffers (now (given .requesters)) (now (given .entries)) (now (given .memory)) (now (given .peers)) (now (given .interrupts)) (now (given .windows)) (now (given .segments)) (now (given .state)) (now (given .line)) (now (given .out))) (given .at) (c .before .fit .ensures) (c .if1 .left), refl)
 
 pub feed-spec : {M : Type 1} → statement M
 feed-spec =
     tie.close
     (tie.spec
-    returns
-    returns-2
+    fit-requires
     take-bytes-requires
     same-length
     same-length-2
@@ -65,4 +69,5 @@ feed-spec =
     same-length-8
     same-length-9
     same-length-10
-    returns-3)
+    returns
+    returns-2)

@@ -1,0 +1,17 @@
+-- `replay::moved_by` meets its contract. Assumes nothing.
+use Rattle.replay.proofs.Laws as laws
+use borrow.Author.Needs.{needs}
+use Rattle.replay.proofs.moved_by.Statement.{statement}
+use Rattle.replay.proofs.moved_by.Tie as tie
+
+add-t5 : tie.Need-add-t5
+add-t5 c = search needs
+
+returns : tie.Need-returns
+returns c = search laws.moved-went
+
+returns-2 : tie.Need-returns-2
+returns-2 c = search laws.moved-stays
+
+pub moved-by-spec : {M : Type 1} → statement M
+moved-by-spec = tie.close (tie.spec add-t5 returns returns-2)
