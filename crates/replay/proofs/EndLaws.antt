@@ -23,10 +23,10 @@ use Rattle.session.specs.Promise.{RanLine}
 use Rattle.session.specs.Session.{Session, settable, replyTo}
 use Rattle.session.specs.declared.Reply.{Reply}
 use Rattle.session.specs.declared.Reply.the-variants.{NoRoom}
-use Rattle.replay.specs.Feed.{lastCount, free}
+use Rattle.stream.specs.Feed.{lastCount, free}
 use Rattle.replay.specs.Promise.{EndedTo, wentBy}
-use Rattle.replay.specs.Replay.{textOf, countAfter}
-use Rattle.replay.specs.Stream.{Stream, ended, ending}
+use Rattle.stream.specs.Replay.{textOf, countAfter}
+use Rattle.stream.specs.Stream.{Stream, ended, ending}
 
 -- every reply of the definition is one that goes
 replies-go : (s : Session) (l : Line) → wentBy (replyTo s l) ≡ true

@@ -14,10 +14,10 @@ use lib.Seq.{length-take-le}
 use borrow.Author.Tests.{ne-eqb, eqb-true, leb-true}
 use Rattle.kinds.specs.Tests.{by-cases, and-left, and-right}
 use Rattle.kinds.specs.declared.record.Lengths.{Lengths}
-use Rattle.replay.specs.Feed.{free, closable}
+use Rattle.stream.specs.Feed.{free, closable}
 use Rattle.replay.specs.Promise.{EndedTo, ClosedTo, FinishedAs, Buffers, streamIn, roomIn, finishedBy, fits}
-use Rattle.replay.specs.Stream.{Stream, lineKept, closing, closed}
-use Rattle.replay.specs.Whole.{whole}
+use Rattle.stream.specs.Stream.{Stream, lineKept, closing, closed}
+use Rattle.stream.specs.Whole.{whole}
 use Rattle.replay.specs.declared.Ended.{Ended}
 use Rattle.replay.specs.declared.Finished.the-variants.{To}
 use Rattle.replay.specs.declared.Progress.{Progress}

@@ -25,10 +25,10 @@ use Rattle.report.specs.declared.Written.the-variants.{To as WrittenTo, NoRoom}
 use Rattle.session.specs.declared.Ran.{Ran}
 use Rattle.session.specs.declared.Reply.{Reply}
 use Rattle.session.specs.declared.Reply.the-variants.{Silent, Says, NoRoom as NoReply}
-use Rattle.replay.specs.Feed.{lastCount}
+use Rattle.stream.specs.Feed.{lastCount}
 use Rattle.replay.specs.Promise.{wentBy, closedBy, endedBy, movedBy, finishedBy}
-use Rattle.replay.specs.Replay.{textOf}
-use Rattle.replay.specs.Stream.{lineKept}
+use Rattle.stream.specs.Replay.{textOf}
+use Rattle.stream.specs.Stream.{lineKept}
 use Rattle.replay.specs.declared.Closed.{Closed}
 use Rattle.replay.specs.declared.Ended.{Ended}
 use Rattle.replay.specs.declared.Finished.the-variants.{To, NoRoom as NoRoomLeft}

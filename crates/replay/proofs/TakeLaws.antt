@@ -18,11 +18,11 @@ use borrow.Author.Tests.{ne-eqb, lt-ltb, le-ltb, eqb-true}
 use Rattle.kinds.specs.Tests.{by-cases, clash}
 use Rattle.kinds.specs.declared.record.Lengths.{Lengths}
 use Rattle.session.specs.Session.{Session}
-use Rattle.replay.specs.Feed.{free, Run, ran, later, run}
+use Rattle.stream.specs.Feed.{free, Run, ran, later, run}
 use Rattle.replay.specs.FeedLaws.{Ran, run-fed}
 use Rattle.replay.specs.Promise.{EndedTo, KeptTo, MovedTo, FedTo}
-use Rattle.replay.specs.Replay.{lineFeed}
-use Rattle.replay.specs.Stream.{Stream, lineKept, held, before, heldAll, ended, ending, fed, said}
+use Rattle.stream.specs.Replay.{lineFeed}
+use Rattle.stream.specs.Stream.{Stream, lineKept, held, before, heldAll, ended, ending, fed, said}
 
 -- what is kept of the bytes of l from place j on, after p, is what was kept from place i on, after q
 pub record Keeping (q l : List ℕ) (i : ℕ) (p : List ℕ) (j : ℕ) : Type 0 where

@@ -10,10 +10,10 @@ use lib.Seq.{sets, length-sets}
 use Rattle.kinds.specs.Tests.{by-cases}
 use Rattle.kinds.specs.declared.record.Lengths.{Lengths}
 use Rattle.report.specs.WrittenLaws.{sets-append}
-use Rattle.replay.specs.Feed.{stuck, taken, Run, run}
+use Rattle.stream.specs.Feed.{stuck, taken, Run, run}
 use Rattle.replay.specs.Promise.{FedTo}
-use Rattle.replay.specs.Stream.{Stream, fed, said, fedAll, saidAll}
-use Rattle.replay.specs.Whole.{whole}
+use Rattle.stream.specs.Stream.{Stream, fed, said, fedAll, saidAll}
+use Rattle.stream.specs.Whole.{whole}
 
 -- a run as a promise
 abbrev pub Ran : Lengths → Stream → ℕ → (o l : List ℕ) → Run → Type 0

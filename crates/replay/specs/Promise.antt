@@ -24,10 +24,10 @@ use Rattle.session.specs.Lent.{lent, lengthsOf}
 use Rattle.session.specs.declared.Ran.{Ran}
 use Rattle.session.specs.declared.Reply.{Reply}
 use Rattle.session.specs.declared.Reply.the-variants.{Silent, Says, NoRoom}
-use Rattle.replay.specs.Feed.{free, closable, taken, ran, later, run}
-use Rattle.replay.specs.Replay.{textOf, countAfter}
-use Rattle.replay.specs.Stream.{Stream, lineKept, before, heldAll, ended, ending, fedAll, saidAll, closing, closed, begin}
-use Rattle.replay.specs.Whole.{Whole}
+use Rattle.stream.specs.Feed.{free, closable, taken, ran, later, run}
+use Rattle.stream.specs.Replay.{textOf, countAfter}
+use Rattle.stream.specs.Stream.{Stream, lineKept, before, heldAll, ended, ending, fedAll, saidAll, closing, closed, begin}
+use Rattle.stream.specs.Whole.{Whole}
 use Rattle.replay.specs.declared.Closed.{Closed}
 use Rattle.replay.specs.declared.Ended.{Ended}
 use Rattle.replay.specs.declared.Fed.{Fed}

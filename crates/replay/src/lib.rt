@@ -16,9 +16,9 @@ ghost use lib.ListN.{length, take};
 ghost use lib.Seq.{sets};
 ghost use Rattle.report.specs.Text.{answerLine, lineMost};
 ghost use Rattle.session.specs.Lent.{lengthsOf};
-ghost use Rattle.replay.specs.Feed.{lastCount};
-ghost use Rattle.replay.specs.Replay.{textOf};
-ghost use Rattle.replay.specs.Stream.{lineKept};
+ghost use Rattle.stream.specs.Feed.{lastCount};
+ghost use Rattle.stream.specs.Replay.{textOf};
+ghost use Rattle.stream.specs.Stream.{lineKept};
 ghost use Rattle.replay.specs.Promise.{EndedTo, FedAs, FedTo, FinishedAs, KeptTo, MovedTo, Started, buffers, closedBy, endedBy, finishedBy, movedBy, streamOf};
 
 // The bytes of a line that are kept: a longer line is bad, and so are its first bytes.

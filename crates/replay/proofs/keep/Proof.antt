@@ -5,7 +5,7 @@ use native.Mathlib.Omega.{arith}
 use denote.Ref.{now}
 use lib.ListN.{length, take}
 use borrow.Author.Needs.{needs}
-use Rattle.replay.specs.Stream.{lineKept}
+use Rattle.stream.specs.Stream.{lineKept}
 use Rattle.replay.proofs.TakeLaws as laws
 use Rattle.replay.proofs.TakeLaws.{Keeping}
 use Rattle.replay.proofs.keep.Statement.{statement}

@@ -6,7 +6,7 @@ use lib.ListN.{length}
 use borrow.Author.Needs.{needs}
 use Rattle.session.specs.Lent.{lengthsOf}
 use Rattle.replay.specs.Promise.{streamOf}
-use Rattle.replay.specs.Stream.{lineKept}
+use Rattle.stream.specs.Stream.{lineKept}
 use Rattle.replay.proofs.TakeLaws as laws
 use Rattle.replay.proofs.TakeLaws.{Here}
 use Rattle.replay.proofs.take_bytes.Statement.{statement}

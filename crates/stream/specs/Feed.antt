@@ -16,8 +16,8 @@ use Rattle.kinds.specs.declared.record.Lengths.{Lengths}
 use Rattle.lines.specs.Line.{lineOf}
 use Rattle.report.specs.Text.{lineMost}
 use Rattle.session.specs.Lent.{roomFor}
-use Rattle.replay.specs.Replay.{lineFeed}
-use Rattle.replay.specs.Stream.{Stream, fed, said}
+use Rattle.stream.specs.Replay.{lineFeed}
+use Rattle.stream.specs.Stream.{Stream, fed, said}
 
 -- the count of output lines has 64 bits
 abbrev pub lastCount : ℕ

@@ -18,8 +18,8 @@ use Rattle.lines.specs.Line.{lineOf}
 use Rattle.lines.specs.LineLaws.{first-bytes}
 use Rattle.report.specs.Text.{header}
 use Rattle.session.specs.Session.{Session, start, replyTo, afterLine}
-use Rattle.replay.specs.Replay.{lineFeed, linesFrom, textOf, countAfter, answers, output}
-use Rattle.replay.specs.Stream.{Stream, lineKept, held, ended, ending, fed, said, fedAll, saidAll, closing, begin}
+use Rattle.stream.specs.Replay.{lineFeed, linesFrom, textOf, countAfter, answers, output}
+use Rattle.stream.specs.Stream.{Stream, lineKept, held, ended, ending, fed, said, fedAll, saidAll, closing, begin}
 
 pub fed-append : (s : Stream) (l k : List ℕ) → fedAll s (l ++ k) ≡ fedAll (fedAll s l) k
 unfolding fedAll

@@ -16,7 +16,7 @@ use lib.ListN.{length}
 use Rattle.lines.specs.Line.{lineOf}
 use Rattle.session.specs.Session.{Session, start, replyTo, afterLine}
 use Rattle.session.specs.declared.Reply.{Reply}
-use Rattle.replay.specs.Replay.{lineFeed, textOf, countAfter}
+use Rattle.stream.specs.Replay.{lineFeed, textOf, countAfter}
 
 pub record Stream : Type 0 where
   pub pending : List ℕ
