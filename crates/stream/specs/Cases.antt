@@ -11,7 +11,8 @@ use Rattle.fields.specs.Field.{fieldsOf, numberFrom, numberOf, only, is}
 use Rattle.lines.specs.Line.{field, final, numbers, sized, dma, lineOf}
 use Rattle.lines.specs.Word.{find}
 use Rattle.profile.specs.Opened.{opened}
-use Rattle.report.specs.Text.{digits, placesFrom, nameOf, headOf, tailOf}
+use Rattle.names.specs.Name.{nameOf}
+use Rattle.report.specs.Text.{digits, placesFrom, headOf, tailOf}
 use Rattle.session.specs.Session.{tableOf, fits, storedIn, replyTo, afterLine}
 use Rattle.stream.specs.Replay.{linesFrom, answers, output}
 
