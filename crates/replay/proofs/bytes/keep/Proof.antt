@@ -1,4 +1,4 @@
--- `replay::keep` meets its contract. The invariant: what is kept from the start is what is kept from here. Assumes nothing.
+-- `replay::bytes::keep` meets its contract. The invariant: what is kept from the start is what is kept from here. Assumes nothing.
 use mathlib.Core.Path.{_≡_, refl}
 use Prim.Native.Nat.{_-_, _≤_}
 use native.Mathlib.Omega.{arith}
@@ -8,8 +8,8 @@ use borrow.Author.Needs.{needs}
 use Rattle.stream.specs.Stream.{lineKept}
 use Rattle.replay.proofs.TakeLaws as laws
 use Rattle.replay.proofs.TakeLaws.{Keeping}
-use Rattle.replay.proofs.keep.Statement.{statement}
-use Rattle.replay.proofs.keep.Tie as tie
+use Rattle.replay.proofs.bytes.keep.Statement.{statement}
+use Rattle.replay.proofs.bytes.keep.Tie as tie
 
 abbrev Inv-loop : tie.InvT-loop
 Inv-loop line₀ pending input from end₀ i₀ line end i =

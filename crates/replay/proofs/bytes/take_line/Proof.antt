@@ -1,9 +1,9 @@
--- `replay::take_line` meets its contract. Assumes nothing.
+-- `replay::bytes::take_line` meets its contract. Assumes nothing.
 use native.Mathlib.Omega.{arith}
 use Rattle.replay.proofs.TakeLaws as laws
 use borrow.Author.Needs.{needs}
-use Rattle.replay.proofs.take_line.Statement.{statement}
-use Rattle.replay.proofs.take_line.Tie as tie
+use Rattle.replay.proofs.bytes.take_line.Statement.{statement}
+use Rattle.replay.proofs.bytes.take_line.Tie as tie
 
 keep-requires : tie.Need-keep-requires
 keep-requires c κs = search needs

@@ -1,8 +1,8 @@
--- `replay::close_line` meets its contract. Assumes nothing.
+-- `replay::line::close_line` meets its contract. Assumes nothing.
 use Rattle.replay.proofs.Laws as laws
 use borrow.Author.Needs.{needs}
-use Rattle.replay.proofs.close_line.Statement.{statement}
-use Rattle.replay.proofs.close_line.Tie as tie
+use Rattle.replay.proofs.line.close_line.Statement.{statement}
+use Rattle.replay.proofs.line.close_line.Tie as tie
 
 answer-line-requires : tie.Need-answer-line-requires
 answer-line-requires c κs = search needs

@@ -1,8 +1,8 @@
--- `replay::write_answer` meets its contract. Assumes nothing.
+-- `replay::line::write_answer` meets its contract. Assumes nothing.
 use Rattle.replay.proofs.Laws as laws
 use borrow.Author.Needs.{needs}
-use Rattle.replay.proofs.write_answer.Statement.{statement}
-use Rattle.replay.proofs.write_answer.Tie as tie
+use Rattle.replay.proofs.line.write_answer.Statement.{statement}
+use Rattle.replay.proofs.line.write_answer.Tie as tie
 
 add-write-line : tie.Need-add-write-line
 add-write-line c = search needs

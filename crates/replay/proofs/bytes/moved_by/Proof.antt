@@ -1,8 +1,8 @@
--- `replay::moved_by` meets its contract. Assumes nothing.
+-- `replay::bytes::moved_by` meets its contract. Assumes nothing.
 use Rattle.replay.proofs.Laws as laws
 use borrow.Author.Needs.{needs}
-use Rattle.replay.proofs.moved_by.Statement.{statement}
-use Rattle.replay.proofs.moved_by.Tie as tie
+use Rattle.replay.proofs.bytes.moved_by.Statement.{statement}
+use Rattle.replay.proofs.bytes.moved_by.Tie as tie
 
 add-t5 : tie.Need-add-t5
 add-t5 c = search needs

@@ -1,8 +1,8 @@
--- `replay::answer_line` meets its contract. Assumes nothing.
+-- `replay::line::answer_line` meets its contract. Assumes nothing.
 use Rattle.replay.proofs.Laws as laws
 use borrow.Author.Needs.{needs}
-use Rattle.replay.proofs.answer_line.Statement.{statement}
-use Rattle.replay.proofs.answer_line.Tie as tie
+use Rattle.replay.proofs.line.answer_line.Statement.{statement}
+use Rattle.replay.proofs.line.answer_line.Tie as tie
 
 enum-told : tie.Need-enum-told
 enum-told c = search needs

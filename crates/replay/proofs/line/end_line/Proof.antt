@@ -1,4 +1,4 @@
--- `replay::end_line` meets its contract. Assumes nothing.
+-- `replay::line::end_line` meets its contract. Assumes nothing.
 use mathlib.Core.Path.{refl, sym}
 use denote.Ref.{now}
 use native.Mathlib.Omega.{arith}
@@ -6,8 +6,8 @@ use lib.Seq.{length-take-le}
 use Rattle.replay.specs.Promise.{wentBy}
 use Rattle.replay.proofs.EndLaws as laws
 use borrow.Author.Needs.{needs}
-use Rattle.replay.proofs.end_line.Statement.{statement}
-use Rattle.replay.proofs.end_line.Tie as tie
+use Rattle.replay.proofs.line.end_line.Statement.{statement}
+use Rattle.replay.proofs.line.end_line.Tie as tie
 
 has-room-requires : tie.Need-has-room-requires
 has-room-requires c κs = search needs

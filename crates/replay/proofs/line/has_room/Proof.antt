@@ -1,7 +1,7 @@
--- `replay::has_room` meets its contract. Assumes nothing.
+-- `replay::line::has_room` meets its contract. Assumes nothing.
 use Rattle.replay.proofs.Laws as laws
-use Rattle.replay.proofs.has_room.Statement.{statement}
-use Rattle.replay.proofs.has_room.Tie as tie
+use Rattle.replay.proofs.line.has_room.Statement.{statement}
+use Rattle.replay.proofs.line.has_room.Tie as tie
 
 returns : tie.Need-returns
 returns c = search laws.counted-out

@@ -1,4 +1,4 @@
--- `replay::take_bytes` meets its contract. The invariant: the run from the start is the run from here, after i bytes. Assumes nothing.
+-- `replay::bytes::take_bytes` meets its contract. The invariant: the run from the start is the run from here, after i bytes. Assumes nothing.
 use mathlib.Core.Path.{_≡_, refl}
 use Prim.Native.Nat.{_-_, _≤_}
 use native.Mathlib.Omega.{arith}
@@ -9,8 +9,8 @@ use Rattle.replay.specs.Promise.{streamOf}
 use Rattle.stream.specs.Stream.{lineKept}
 use Rattle.replay.proofs.TakeLaws as laws
 use Rattle.replay.proofs.TakeLaws.{Here}
-use Rattle.replay.proofs.take_bytes.Statement.{statement}
-use Rattle.replay.proofs.take_bytes.Tie as tie
+use Rattle.replay.proofs.bytes.take_bytes.Statement.{statement}
+use Rattle.replay.proofs.bytes.take_bytes.Tie as tie
 
 abbrev Inv-loop : tie.InvT-loop
 Inv-loop requesters₀ entries₀ memory₀ peers₀ interrupts₀ windows₀ segments₀ state₀ line₀ input out₀ at p₀ end₀ i₀ requesters entries memory peers interrupts windows segments state line out p end i =
