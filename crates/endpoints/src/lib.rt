@@ -1,4 +1,4 @@
-// Stop bits and error records, and what firmware clears.
+// The words of a PE in the state: its stop bits and its error record, and their release by firmware.
 use kinds::number::PeNumber;
 use kinds::request::Part;
 use kinds::words::put;
@@ -7,7 +7,7 @@ ghost use mathlib.Core.Path.{_≡_};
 ghost use Rattle.kinds.specs.Words.{at};
 ghost use Rattle.profile.specs.Freeze.{mmioStopped, dmaStopped, stopWord, released};
 
-// The words of a PE in the state: stop bits, reason, value.
+// Stop bits, reason, value.
 pub const STATE_WORDS: usize = 3;
 
 pub fn mmio_stopped(stop: u64) -> bool

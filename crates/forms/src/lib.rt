@@ -1,4 +1,4 @@
-// Reason 2: the form of a request.
+// Reason 2: whether a request is well formed.
 use kinds::number::ByteAddress;
 use kinds::request::Request;
 ghost use mathlib.Core.Path.{_≡_};

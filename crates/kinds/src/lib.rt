@@ -1,4 +1,4 @@
-// The kinds of value that the bridge speaks of. Nothing here knows the profile.
+// The kinds of value: addresses, page and PE numbers, requests, answers, effects, records of the tables. Nothing here depends on the profile.
 pub mod answer;
 pub mod lookup;
 pub mod number;

@@ -1,4 +1,4 @@
-// Requests and answers as words: the layout that `run` reads and writes.
+// Requests and answers as words: the layout that `bridge::run` reads and writes.
 use kinds::number::ByteAddress;
 use kinds::request::Direction;
 use kinds::request::Part;

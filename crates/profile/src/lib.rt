@@ -1,1 +1,1 @@
-// The profile is a definition: all of it stands in specs/, with its laws and its cases.
+// The definition of the profile: what every request is answered and leaves, with laws and cases. All of it stands in specs/.

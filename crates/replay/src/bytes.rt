@@ -44,7 +44,7 @@ fn keep(line: &mut [u8], pending: usize, input: &[u8], from: usize) -> Kept
     }
 }
 
-// The line feed at place `next` of the input was taken if its line went.
+// The line feed at place `next` of the input was taken if its line could end.
 fn moved_by(ended: Ended, next: usize) -> Moved
     requires { ⌜ next < 2 ^ 63 ⌝ }
     ensures { λ r. ⌜ r ≡ movedBy ended next ⌝ }

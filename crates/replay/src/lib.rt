@@ -54,7 +54,7 @@ pub(crate) struct Kept {
     pub(crate) next: usize,
 }
 
-// Where the replay stands after a line's bytes, the place of the input after them, and whether the line, if it ended, went.
+// Where the replay stands after a line's bytes, the place of the input after them, and false in `went` where its line could not end.
 pub(crate) struct Moved {
     pub(crate) progress: Progress,
     pub(crate) at: usize,
@@ -62,14 +62,14 @@ pub(crate) struct Moved {
     pub(crate) went: bool,
 }
 
-// The end of the output and the count of its lines after a reply, and whether the line went.
+// The end of the output and the count of its lines after a reply; `went` is false where there was no room for the tables of the line.
 pub(crate) struct Closed {
     pub(crate) at: usize,
     pub(crate) count: u64,
     pub(crate) went: bool,
 }
 
-// What became of the end of a line: it went, or there was no room for it and nothing was done.
+// What became of the end of a line: its end was taken, or (`went` is false) there was no room for it and nothing was done.
 pub(crate) struct Ended {
     pub(crate) progress: Progress,
     pub(crate) at: usize,

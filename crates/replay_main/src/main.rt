@@ -30,7 +30,8 @@ fn write_header(out: &mut [u8; 356352]) -> bool {
     }
 }
 
-// Reads a piece, feeds it and writes its answers. The output has room for the lines of 4,096 bytes.
+// Reads a piece, feeds it and writes its answers. The output has room for the lines of 4,096 bytes and the tables for every good size line, so that
+// all bytes are taken.
 fn piece(
     progress: Progress,
     requesters: &mut [u16; 64],

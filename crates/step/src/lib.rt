@@ -1,4 +1,4 @@
-// One request: what it comes to, and then its effect. Only state and interrupts are written.
+// One request on any tables: its answer, and its effect done. Only state and interrupts are written.
 use decision::decide;
 use decision::owner;
 use endpoints;

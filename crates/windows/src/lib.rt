@@ -49,7 +49,7 @@ fn segment(base: u64, size: u64, address: ByteAddress) -> u64
     (address.0 - base) >> (u64::trailing_zeros(size) - SEGMENT_BITS)
 }
 
-// M32 is open and covers the address. A closed window mostly has size 0, which covers nothing.
+// M32 is open and covers the address. Whether it covers the address is asked first: the test is short.
 fn m32_takes(base: u64, size: u64, pci: u64, address: ByteAddress) -> bool
     ensures { λ r. ⌜ r ≡ m32Takes base size pci address ⌝ }
 {
