@@ -1,4 +1,4 @@
--- What the functions of `bridge` are proved from. Assumes nothing.
+-- What `write_answer` is proved from. Assumes nothing.
 use mathlib.Core.Path.{_≡_, ap}
 use mathlib.Core.List.{List}
 use Prim.Native.Nat.{ℕ}

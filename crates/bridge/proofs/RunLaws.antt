@@ -1,4 +1,4 @@
--- What the functions of `run` are proved from. Assumes nothing.
+-- What `unnamed`, `reply`, `serve` and `run` are proved from. Assumes nothing.
 use mathlib.Core.Path.{_≡_, refl, sym, ap, _∙_}
 use mathlib.Core.Bool.{Bool, true, false}
 use mathlib.Core.List.{List}

@@ -1,8 +1,8 @@
 -- What the entry points promise.
 --     Handled f m s q a t     request q was answered a and left t: as the definition says, and isolation holds of that definition (of `step`)
---     Replied f m s d a t     the same of what the words of a request name
+--     Replied f m s d a t     what the words of a request name, d, was answered a and left t: as the definition says
 --     RanAll f m w s l n t k  of the request words w, n were served on s; t is what they left, and k the answer words that were l: as the definition
---                             says, and isolation holds of that definition
+--                             says, and isolation holds of that definition, for requests and for their words
 -- Assumes nothing.
 use mathlib.Core.Path.{_≡_}
 use mathlib.Core.List.{List}
@@ -15,7 +15,6 @@ use Rattle.bridge.specs.Run.{answeredAs, afterAs, served, ranTo}
 use Rattle.bridge.specs.RunIsolation.{RunIsolation}
 pub use Rattle.step.specs.Promise.{Handled}
 
--- the same of what the words of a request name
 pub record Replied (f : Tables) (m : List ℕ) (s : Live) (d : Decoded) (a : Answer) (t : Live) : Type 0 where
   pub answers : a ≡ answeredAs f m s d
   pub leaves : t ≡ afterAs f m s d

@@ -1,7 +1,7 @@
 -- DEMAND 3, of a run over words.
 --     machineAs G f m     the machine of fixed tables f and memory m over what the words of requests name
 --     ownRequests ..      what the words of the group's own requests name, in order: of the first n requests of w
---     ownAnswers ..       the words of their answers, in order, in the answer words x
+--     ownAnswers ..       the words of their answers, in order, in the answer words x; ownAnswersFrom ..: of n requests from request k
 --     RunIsolation        THE CLAIM: `Isolation`, with words in the place of requests and answers
 --     run-isolation       THE THEOREM
 -- Assumes nothing.

@@ -1,4 +1,4 @@
--- What the functions of `decide` and `firmware_requests` are proved from. Assumes nothing.
+-- What `by_requester`, `error` and the functions of `firmware_requests` are proved from. Assumes nothing.
 use mathlib.Core.Path.{_≡_, sym, ap, _∙_}
 use mathlib.Core.List.{List, []}
 use Prim.Native.Nat.{ℕ}

@@ -2,7 +2,7 @@
 --     firstOf l           the first field of l; cutOf l is its length
 --     fieldAfter l p      the field after the one that ends at p; empty where there is none
 --     endAfter l p        where it ends
---     fieldsAfter l p     all the fields after the one that ends at p
+--     fieldsAfter l p     all the fields after the one that ends at p; rest l: those after the first byte of l
 -- Assumes nothing.
 use mathlib.Core.Bool.{cond}
 use mathlib.Core.List.{List, [], _∷_}

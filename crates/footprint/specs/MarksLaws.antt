@@ -3,6 +3,7 @@
 --     walks-paged         an entry that is walked for some address is paged
 --     table-marked        every word of a table that misses nothing is marked
 --     walk-marked         every word that a walk reads has a mark, where its first table and all levels miss nothing
+--     entry-marked        the same of the walk by an entry that misses nothing, for any address
 --     reads-marked        THE STATEMENT: where no member's entry misses a word, every word that a member's walk reads for an address of the DMA class
 --                         has a mark
 -- Assumes nothing.

@@ -1,4 +1,4 @@
--- What the functions of `forms` are proved from.
+-- What `access_formed` and `is_formed` are proved from.
 --     formed-at ..        a width with the address a multiple of it; formed-case: the form of a request, by its kind
 -- Assumes nothing.
 use mathlib.Core.Path.{_≡_, sym, ap, _∙_}

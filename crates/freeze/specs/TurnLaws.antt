@@ -1,5 +1,5 @@
 -- The turns of a freeze, word by word.
---     length-stopped ..   the state keeps its length
+--     length-stopped, length-turned   the state keeps its length
 --     at-stopped          the words of a PE that is stopped are marked, and no others
 --     at-turned           a turn freezes the words of its PE, and no others
 --     turns-is            turns for all PEs of the state are the freeze

@@ -48,7 +48,7 @@ owned-member g (Of p) = refl
 owned-member g (Nobody r) = refl
 
 module _ (g l : List ℕ) where
-  -- a PE outside the group that memberListed no member
+  -- a PE outside the group that lists no member
   outsider-none : (p : PeNumber) → memberOf g (p .0) ≡ false → outsiderLists g l (p .0) ≡ false → (k : ℕ) → memberOf g k ≡ true → bitOf (vectorIn l p) k ≡ false
   unfolding outsiderLists memberListed
   outsider-none p o h k u =

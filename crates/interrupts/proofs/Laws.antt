@@ -1,4 +1,4 @@
--- What the functions of `interrupts` are proved from.
+-- What `interrupt_at` and `store` are proved from.
 --     words-in, none-in   the words of an interrupt; stores ..: the table after its two written words
 -- Assumes nothing.
 use mathlib.Core.Path.{_≡_}

@@ -1,7 +1,8 @@
--- What demand 3 gives of one bridge, and its other form.
+-- What demand 3 gives: of one bridge, of what follows both lists, and by the state that each request meets; and reason 1 on both bridges.
 --     one-bridge          one start and two lists whose own requests are equal
 --     as-if-alone         a group's answers and words in any list are those that it gets when only its own requests are made
 --     view-after          after both lists the bridges meet the premises again, so the claim holds of what follows
+--     ran a l             bridge a after list l
 --     isolated-met        the claim with own requests by the state that each meets
 --     reason-one-both     if reason 1 holds, it holds for both bridges; reason-one: every answer is then 1, and nothing changes
 -- Assumes nothing.

@@ -5,6 +5,7 @@
 --     left a l            state and interrupts after the list
 --     Isolation           THE CLAIM, as a type that a promise can cite
 --     isolation           THE THEOREM
+--     belongs-keeps       no request changes which requests belong to the group
 --     laws                the laws of one request are laws of two machines
 --     run-agrees          two lists, in the relations of those laws
 --     met-own             the own requests by the start are those by the state that each meets: no request changes what belongs to whom

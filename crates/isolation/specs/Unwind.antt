@@ -1,13 +1,14 @@
--- The unwinding theorem: from laws of one request to two machines and two lists of requests. It knows no bridge.
+-- The unwinding theorem: from laws of one request to two machines and two lists of requests. No bridge is named here.
 --     Machine             what a request leaves, what it is answered, and whether it is owned, asked of the state that it meets
 --     end next s l        the state after a list
---     mine m s l          the owned requests of a list, in order; seen m s l: their answers; met m s l: the requests with the states that they meet
+--     mine m s l          the owned requests of a list, in order; seen m s l: their answers; met m s l: each as a `Met`, with the state that it meets
 --     replies m s l       the answers to all requests of a list
 --     Align               two lists side by side: a request that is not owned stands alone, owned ones stand in pairs that match. `Match` looks at
 --                         the two states and the two requests, and may be weaker than equality
 --     Laws                what one request has to keep: on the left alone, on the right alone, on both
 --     aligned             from `Laws` to two lists that stand side by side
---     Pairs, paired       lists whose owned requests match in order do stand side by side
+--     Pairs, paired       lists whose owned requests match in order (OfMet) do stand side by side
+--     same-pairs          equal owned requests match; same-and, pairs-both: with what the states share besides
 --     unwound             THE THEOREM, for any `Match`; unwound-same: where owned requests match by being equal
 --     Runs, run-same      a machine that answers as another one does, seen through a function, as long as an invariant holds: every list is answered
 --                         the same and leaves the same

@@ -2,7 +2,7 @@
 --     reasonNumber r      the number of reason r in the table of answers
 --     numbered a          answer a as numbers: its name (0 pass, 1 msi, 2 held, 3 ones, 4 drop, 5 refuse, 6 done), its reason (0: none),
 --                         its value (an address, an interrupt number, all ones, or 0), the count of table words read, and its PE, server and
---                         priority (0 where an answer has none)
+--                         priority (0 where an answer has none); plain: of an answer that has none
 -- Assumes nothing.
 use Prim.Native.Nat.{ℕ}
 use Rattle.kinds.specs.declared.answer.Answer.{Answer}

@@ -3,9 +3,9 @@
 --     eight-shl           8 << k, the bytes of a table of 2 ^ k words
 --     masked              x & ((1 << k) - 1)
 --     cleared             (x >> k) << k
---     joined              (p << k) | (x & ((1 << k) - 1)), cut to 64 bits
+--     joined              (p << k) | (x & ((1 << k) - 1)), cut to 64 bits; joined-fits: a word with its lowest k bits replaced is in 64 bits
 --     mod-lt-pow          a remainder by 2 ^ k is below every power from 2 ^ k up
---     less-one            one of l rows of b
+--     less-one            l times b is one b more than l - 1 times b
 -- Assumes nothing.
 use mathlib.Core.Path.{_≡_, sym, ap, subst, subst⁻¹, _∙_}
 use Prim.Native.Nat.{ℕ, zero, suc, _+_, _-_, _*_, _/_, _%_, _^_, _≤_, _<_}

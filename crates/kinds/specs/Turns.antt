@@ -1,6 +1,6 @@
 -- A loop over the groups of w words of a table, each turn rewriting one group by a rule of its old words. The last group may be incomplete.
 --     turns turn l n      n turns of the loop over l, the first at group 0
---     turns-suc           one turn more; turns-next: as a loop takes it
+--     turns-suc           one turn more; turns-next: as a loop takes it; length-turns: the length is kept
 --     at-place            a word after a store to word j of group k; at-first: to its word 0
 --     turns-mapAt         turns that reach the end of the table rewrite it by the rule
 -- Assumes nothing.

@@ -6,7 +6,8 @@
 --     decodedAt l k               request k of the list of words l
 --     numberList x                the 8 words of an answer: name, reason, value, words read, PE, server, priority, as `numbered` has them, and 0
 --     wordsAt x k                 the words of answer k in the answer words x
---     written l k a               the list of words l with answer a written as its answer k
+--     written l k a               the list of words l with answer a written as its answer k; stored l i x: the numbers x from place i
+--     decodedDma, decodedClear    the cases of kinds 0 and 4
 -- Assumes nothing.
 use mathlib.Core.Bool.{cond}
 use mathlib.Core.List.{List, [], _∷_}

@@ -2,7 +2,7 @@
 --     reasonFrom n                the reason with number n; answerFrom x: the answer with numbers x
 --     numbered-injective          two answers with the same words are the same
 --     words-written, words-kept   the words of an answer once it is written, and once a later one is
---     at-written                  the words of an answer that was written; written-keeps: all other words
+--     at-written                  the words of an answer that was written; written-keeps: all other words; length-written: their number
 -- Assumes nothing.
 use mathlib.Core.Path.{_≡_, refl, sym, ap, _∙_}
 use mathlib.Core.Bool.{false}

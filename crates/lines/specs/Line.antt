@@ -1,6 +1,6 @@
 -- What a line of replay text says.
 --     lineOf l            what line l says: its first field picks the form that the other fields have to take; Bad where they do not
---     forms               the first fields, each with its form
+--     Form                what the fields after the first say; forms: the first fields, each with its form (sizeLine .. priorityLine)
 --     field read k        a form: a field that `read` takes, then the form that k gives for what was read
 --     final read k        a form: one more field, that `read` takes; the line says what k gives
 --     numbers k           a form: two more fields, both numbers

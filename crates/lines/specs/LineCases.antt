@@ -1,5 +1,6 @@
 -- Lines and what they say: every form, every limit and one past it, and lines of no form.
---     right               each line of the table says what stands beside it
+--     sizes, stores, requests, others     the tables
+--     right               each line of the tables says what stands beside it
 --     longest-good        a good line of 73 bytes
 -- Assumes nothing.
 use mathlib.Core.Path.{_≡_, refl}

@@ -5,6 +5,7 @@
 --                         may be in G: no request belongs to it
 --     peOf i              the PE that word i of the state belongs to
 --     seenWord i x        what counts of word i, of value x, of the state: of a stop word the lowest two bits, of another word all
+--     interruptPe s i     the PE that interrupt i belongs to
 --     Same G n s t        state and interrupts: lengths, the group's words, the PE word of each of n interrupts, the interrupt records of the group
 --     Alike G f g         the fixed tables: sizes, requesters, peers, windows, segments, the length of the entries, the entries of the group
 --     Reads G f m k       memory word k is read by a walk of a member for some address of the DMA class, whatever the stop bits are

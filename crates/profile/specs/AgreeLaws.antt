@@ -2,7 +2,7 @@
 --     same-refl, same-sym, same-trans     so a request that the group does not see may stand on either side; alike-refl
 --     stop-agrees, reason-agrees  the stop bits and the reason of a member
 --     interrupt-agrees    the record of an interrupt of a member
---     entry-agrees        the translation entries of a member
+--     entry-agrees        the translation entries of a member; half-agrees: the one that an address picks
 --     walk-agrees         a member's walk is the same over both memories; reads-agrees: so it reads the same places
 --     held-refl, held-sym, held-trans     `Held` is an equivalence too: its premise on the words of the first memory is none on the second's
 -- Assumes nothing.

@@ -1,5 +1,6 @@
 -- The rows of the tables of cases: a request on a small bridge, its answer, and what it leaves.
 --     Case                the tables, memory and what is written, the request, its answer, and all words that may change, after it
+--     Shown               an answer, and all words that may change, after it
 --     given, stated       what the definition gives of a row, and what the row says
 --     bridge e k v w g    4 PEs, 8 interrupts and 8 requesters, of which 1, 5 and 6 are PEs 1, 2 and 3 and the others nobody's; PE 2's two records
 --                         are e and k; v, w and g are peers, windows and segments

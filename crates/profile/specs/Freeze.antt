@@ -1,5 +1,5 @@
 -- 01, 'Answers', on stop bits, error records and freezing.
---     stopWord p ..       the places of the words of PE p in the state: stop bits, reason, value
+--     stopWord p, reasonWord p, valueWord p   the places of the words of PE p in the state
 --     mmioStopped w       bit 0 of a stop word is set
 --     dmaStopped w        bit 1 of a stop word is set
 --     vectorIn l p        the peer vector of PE p in the peers table l
@@ -8,6 +8,7 @@
 --     frozen v p r x l    how a freeze of PE p with peer vector v, reason number r and value x rewrites each word of the state l. The failing PE
 --                         gets r and x, a peer 13 and the failing PE's number, and a PE in its own vector counts as the failing one. The state
 --                         has words for the PEs below N only, so bits for N and above are ignored
+--     froze v p r x l     the state l after it
 --     released c p l      the state after firmware cleared part c of PE p, alone
 -- Assumes nothing.
 use mathlib.Core.Bool.{Bool, cond}

@@ -1,5 +1,5 @@
 -- Laws of whom a request belongs to.
---     owner-below         a PE that a request belongs to is below N
+--     owner-below         a PE that a request belongs to is below N (Below n o: the owner o is below n, or nobody)
 --     owner-keeps         no request changes what belongs to whom
 --     owner-agrees        on two bridges that agree in what a group sees it belongs to the same PE, or to nobody with the same refusal
 --     route-agrees        the windows of both give the same

@@ -1,7 +1,8 @@
 -- The laws of one request, on two bridges that agree in what a group sees. Each kind of request is looked at in the laws of `owner`
--- (OwnerLaws) and of `ask`, once in each; nothing below them knows the kinds.
+-- (OwnerLaws) and of `ask`, once in each; nothing below them depends on the kind.
 --     ask-agrees          a member's request comes to the same on both, as far as no memory is read
---     ask-walks           the page table of a PE is walked only for an address of the DMA class, and by an entry that walks
+--     vector-agrees       a PE has the same peer vector on both
+--     ask-walks           (Walkable) the page table of a PE is walked only for an address of the DMA class, and by an entry that walks
 --     finish-agrees       and to the same by the walk
 --     decided-agrees      AN OWN REQUEST is answered alike (answered-agrees), and has the same effect
 --     after-agrees        so it keeps what the group sees

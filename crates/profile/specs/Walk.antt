@@ -9,7 +9,8 @@
 --                         that the walk stopped at; a word outside memory is not among those read
 --     allows d w          the last word allows direction d: bit 0 is read-valid, bit 1 write-valid
 --     arrive s d p a r    what a finished walk comes to: the word's bits from the page size up joined with the page offset, or 8, or 15
---     reads f m p a       the places of the memory words that the walk of PE p reads for address a
+--     arriveAt s d p a x n    the same by what was found, after n words
+--     reads f m p a       the places of the memory words that the walk of PE p reads for address a; readsBy e m a: by entry e
 --     translated m e p d a    what a DMA comes to by entry e: the walk, or what the entry alone says
 -- Assumes nothing.
 use mathlib.Core.Bool.{Bool, cond, not, _&&_}

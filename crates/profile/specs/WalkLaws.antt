@@ -1,5 +1,5 @@
 -- What a walk depends on: its entry, the words at the places that it reads, the length of memory, and nothing else.
---     walk-zero, walk-suc no level, and one level of the walk with the levels below left shut
+--     walk-zero, walk-suc no level, and one level of the walk with the levels below not unfolded
 --     goesOn k n w        word w leads on, and there is a level below
 --     first-read          the place of a level's word is among those read
 --     later-read          so is every place that the level below reads, where the word leads on

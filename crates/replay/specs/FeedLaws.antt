@@ -1,4 +1,5 @@
 -- A run by its parts.
+--     Ran k s a o l r     r has the bytes taken, the stream, the end and the output that `FedTo` promises
 --     run-fed             how many bytes a run takes, and what they leave and write
 -- Assumes nothing.
 use mathlib.Core.Path.{refl, sym, ap, _∙_}

@@ -5,11 +5,12 @@
 --     KeptTo p l i j q n      from place i of input l to place j, the bytes up to a line feed or the end were kept after p: q, n bytes of it at most
 --     MovedTo k s a o l i ..  the same from place i to place j, with the line feed if its line could end
 --     endedBy, movedBy, finishedBy    what the end of a line makes of the line, of its line feed and of the end of the input
---     closedBy a n r          the end of the output and the count of its lines after reply r, and whether the line went
+--     closedBy a n r          the end of the output and the count of its lines after reply r; wentBy r: the tables had room for the line
 --     Buffers, buffers        all lent lists; streamIn p b, roomIn b: the stream and the lengths that they are
 --     Started p               progress p is before the first byte, whatever the lent lists hold
 --     FedAs p b a l r c       a piece l was fed: r, and the lent lists afterwards
 --     FinishedAs p b a r c    the input ended
+--     ClosedTo s a o ..       the same where it could end: the stream, the end and the output afterwards
 --     fits b p                a buffer of 128 bytes for the line, and no more of it pending
 -- Assumes nothing.
 use mathlib.Core.Path.{_≡_}
@@ -43,7 +44,7 @@ streamOf p b q e m v n w g t = record { pending = take (p .pending) b; count = p
 abbrev pub fits : List ℕ → Progress → Bool
 fits b p = eqb (length b) lineKept && leb (p .pending) lineKept
 
--- a line goes unless the tables have no room for it
+-- the tables had room for the line
 abbrev pub wentBy : Reply → Bool
 wentBy Silent = true
 wentBy (Says x) = true

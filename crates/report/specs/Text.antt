@@ -2,7 +2,8 @@
 --     header              the first line
 --     answerLine n x      output line n: n, the answer's name, its reason, its value and its count of table words, parted by tabs, with a line feed
 --     decimal n           number n in decimal, with no zero in front
---     hexadecimal v       value v in 16 digits
+--     hexadecimal v       value v in 16 digits; digits b k n: the last k digits of n in base b, places n: how many n has in decimal
+--     headOf, tailOf      the first two fields of a line, and the other three; lineMost: no line is longer
 --     nameOf k            the name of answer number k; `bad` from 7 on (of `names`)
 --     badNumbers          what a bad line answers
 -- Assumes nothing.

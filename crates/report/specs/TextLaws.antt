@@ -1,6 +1,6 @@
 -- Lengths of the lines that a replay writes.
 --     length-digits       k digits are k bytes
---     places-most         a number has 20 decimal digits at most
+--     places-most         a number has 20 decimal digits at most; decimal-most: so it takes 20 bytes at most
 --     line-most           no answer's line is longer than lineMost
 -- Assumes nothing.
 use mathlib.Core.Path.{_≡_, refl, _∙_}

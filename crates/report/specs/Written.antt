@@ -1,4 +1,5 @@
 -- A text written into a list of bytes, where enough of them are free.
+--     roomFor m o a       m bytes of o are free from place a on
 --     placed m o a t      what is answered where text t is to be written into o at place a, and m bytes have to be free there: the place after it, or NoRoom
 --     written m o a t     the bytes of o afterwards: t in their place, or all as they were
 -- Assumes nothing.

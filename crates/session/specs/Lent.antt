@@ -1,9 +1,10 @@
 -- The lent words of a session. Each table has the first words of its lent list, as many as the last good size line asked for.
---     Extent              what that line asked for: N, M, R and the words of memory; zeros before the first one
+--     Extent              (of the code) what that line asked for: N, M, R and the words of memory; zeros before the first one
 --     lent x q e ..       the session that extent x and the lent lists are
 --     once n              0 where n is 0, else 1: windows and segments are there as soon as there are PEs
 --     roomFor l k         whether lists of lengths k can hold what line l asks for: a size line asks for tables of at least one
 --                         PE, no other line for anything
+--     peRoom, otherRoom   the same of the tables with words for each PE, and of the others
 --     lengthsOf q e ..    the lengths of the lent lists
 -- Assumes nothing.
 use mathlib.Core.Bool.{Bool, true, cond, _&&_}

@@ -5,7 +5,7 @@
 --     emptied n m r w     after a good size line: all tables of these sizes, all words 0
 --     tableOf s t         the words of table t; fits t v: v is not too wide for it; stored s t i v: the session with word i of table t set to v
 --     settable s t i v    an index and a value that a set line may have
---     Reply               what a line writes: nothing (Silent), or an output line with these numbers (Says)
+--     Reply               (of the code) what a line writes: nothing (Silent), or an output line with these numbers (Says)
 --     replyTo s l         what line l writes; afterLine s l: the session after it. A bad line changes nothing
 -- Assumes nothing.
 use mathlib.Core.Bool.{Bool, true, cond, _&&_}

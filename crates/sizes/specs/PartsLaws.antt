@@ -1,5 +1,5 @@
 -- The parts of reason 1.
---     limited-pes ..      what the limits say of N and of M
+--     limited-pes, limited-interrupts     what the limits say of N and of M
 --     sized-is            reason 1 is the parts together; sized-pes: so N is within its limit
 -- Assumes nothing.
 use mathlib.Core.Path.{_≡_}

@@ -1,4 +1,4 @@
--- What the functions of `handle` are proved from. Assumes nothing.
+-- What `act_at`, `act_by` and `handle` are proved from. Assumes nothing.
 use mathlib.Core.Path.{_≡_, refl, ap, _∙_}
 use mathlib.Core.Bool.{Bool, true, false}
 use mathlib.Core.List.{List, []}

@@ -2,8 +2,9 @@
 --     free k s a c        whether the line of stream s can end: one more output line can be counted, c bytes of output have room for it from place a on, and
 --                         tables of lengths k have room for what the line asks
 --     closable k s a c    whether the input can end: no line is pending, or it can end
+--     stuck k s a c b     byte b is a line feed whose line cannot end
 --     taken k s a c l     how many bytes of l are taken: all up to the first line feed whose line cannot end
---     Run                 the stream, the place after the output, the output bytes, and the count of bytes taken
+--     Run                 the stream, the place after the output, the output bytes, and the count of bytes taken; later n r: the run r after n bytes more
 --     run k s a o l       the run of bytes l, from stream s and output o with its end at a
 -- Assumes nothing.
 use mathlib.Core.Bool.{Bool, cond, not, _&&_, _||_}

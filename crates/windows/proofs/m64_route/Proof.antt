@@ -1,5 +1,5 @@
--- The loop's invariant: the first of the 16 M64 windows that takes the address is the first of those left. The measure is how many are left.
--- Assumes nothing.
+-- `windows::m64_route` meets its contract. The invariant: the first of the 16 M64 windows that takes the address is the first of those left.
+-- The measure is how many are left. Assumes nothing.
 use mathlib.Core.Path.{_≡_}
 use Prim.Native.Nat.{_-_, _≤_}
 use borrow.Author.Needs.{needs}

@@ -1,5 +1,5 @@
--- The invariant: the walk from the top is the walk of the levels that are left, after the words read so far. The measure: the levels that are left.
--- Assumes nothing.
+-- `translation::walk::walk` meets its contract. The invariant: the walk from the top is the walk of the levels that are left, after the words read
+-- so far. The measure is the number of levels that are left. Assumes nothing.
 use mathlib.Core.Path.{_≡_}
 use Prim.Native.Nat.{_+_, _*_, _≤_}
 use borrow.Author.Needs.{needs}
