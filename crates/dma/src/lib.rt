@@ -21,7 +21,7 @@ ghost use Rattle.profile.specs.Msi.{msi};
 ghost use Rattle.dma.specs.ByValue.{classed, dmaOf};
 ghost use Rattle.dma.specs.Tables.{tables, live};
 
-// An MSI of a PE, with its number.
+// An MSI of a PE, with its number; `good` says whether it is of good form.
 fn deliver_msi(
     sizes: Sizes,
     interrupts: &[u64],

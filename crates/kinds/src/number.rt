@@ -1,4 +1,4 @@
-// A byte address, a page number and a PE number, and the only ways from one to another.
+// A byte address, a page number and a PE number: three kinds of value. The first two come from each other by a page size.
 ghost use mathlib.Core.Path.{_≡_};
 ghost use Prim.Native.Nat.{_%_, _^_};
 ghost use Rattle.kinds.specs.Number.{pageBits, pageNumber, byteAddress};

@@ -1,4 +1,5 @@
-// What is asked of the bridge. The numbers are as wide as a caller can bring them: they become kinds when they have been found good.
+// What is asked of the bridge. Numbers of requesters, PEs and interrupts are as wide as a caller can bring them; that of a PE becomes a
+// `PeNumber` when it has been found good.
 use crate::number::ByteAddress;
 
 pub enum Direction {

@@ -31,7 +31,7 @@ pub fn name_bytes(name: u64) -> [u8; 6]
     *b"bad\0\0\0"
 }
 
-// Its letters.
+// How many letters it has.
 pub fn name_length(name: u64) -> usize
     ensures { λ r. ⌜ r ≡ length (nameOf name) ⌝ }
 {
