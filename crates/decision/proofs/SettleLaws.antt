@@ -38,13 +38,13 @@ use Rattle.decision.specs.Tables.{tables, live}
 
 -- ---- a load or store
 
-module _ (z : Sizes) (t : List ℕ) (h : Hit) (dead : Answer) {o : Owner} (i : o ≡ ofHit (tables z [] [] [] [] []) h) where
-  pub access-owned : {p : PeNumber} {w : ℕ} {b : Answer} → o ≡ Of p → w ≡ at t (stopWord p) → b ≡ accessed h p w dead
-      → _≡_ {A = Outcome} (record { answer = b; effect = Keep }) (accessedBy (ofHit (tables z [] [] [] [] []) h) h t dead)
+module _ (z : Sizes) (t : List ℕ) (h : Hit) (stopped : Answer) {o : Owner} (i : o ≡ ofHit (tables z [] [] [] [] []) h) where
+  pub access-owned : {p : PeNumber} {w : ℕ} {b : Answer} → o ≡ Of p → w ≡ at t (stopWord p) → b ≡ accessed h p w stopped
+      → _≡_ {A = Outcome} (record { answer = b; effect = Keep }) (accessedBy (ofHit (tables z [] [] [] [] []) h) h t stopped)
   unfolding accessedBy
   access-owned k e g = rw (← i, k, g, e)
 
-  pub access-nobody : {r : Reason} {x : Outcome} → o ≡ Nobody r → x ≡ refused r → x ≡ accessedBy (ofHit (tables z [] [] [] [] []) h) h t dead
+  pub access-nobody : {r : Reason} {x : Outcome} → o ≡ Nobody r → x ≡ refused r → x ≡ accessedBy (ofHit (tables z [] [] [] [] []) h) h t stopped
   unfolding accessedBy
   access-nobody k g = rw (← i, k) g
 
@@ -87,12 +87,12 @@ module _ (z : Sizes) (q e m v w g t l : List ℕ) {y : Request} {x : Outcome} wh
       rw i (h ∙ settled-by (tables z [] [] [] [] []) (tables z q e v w g) [] m (live [] l) (live t l) (Priority r n) (owner (tables z q e v w g) (live t l) (Priority r n)) (λ p. refl))
 
 -- a load or store by its owner
-accessed-as : (f : Tables) (m : List ℕ) (s : Live) (q : Request) (h : Hit) (dead : Answer) (o : Owner)
-    → ((p : PeNumber) → outcomeOf f m s p q ≡ record { answer = accessed h p (at (s .state) (stopWord p)) dead; effect = Keep })
-    → accessedBy o h (s .state) dead ≡ settled (finish f m) f s q o
+accessed-as : (f : Tables) (m : List ℕ) (s : Live) (q : Request) (h : Hit) (stopped : Answer) (o : Owner)
+    → ((p : PeNumber) → outcomeOf f m s p q ≡ record { answer = accessed h p (at (s .state) (stopWord p)) stopped; effect = Keep })
+    → accessedBy o h (s .state) stopped ≡ settled (finish f m) f s q o
 unfolding settled accessedBy
-accessed-as f m s q h dead (Of p) k = sym (k p)
-accessed-as f m s q h dead (Nobody r) k = refl
+accessed-as f m s q h stopped (Of p) k = sym (k p)
+accessed-as f m s q h stopped (Nobody r) k = refl
 
 module _ (z : Sizes) (q e m v w g t l : List ℕ) {y : Request} {a : ByteAddress} {n : ℕ} {h : Hit} {x : Outcome} (k : h ≡ route w g a) where
   pub load-case : {c : ℕ} → y ≡ Load a n → formed y ≡ true → c ≡ onesOf (min n 8) → x ≡ accessedBy (ofHit (tables z [] [] [] [] []) h) h t (Ones c)

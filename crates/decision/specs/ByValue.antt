@@ -15,5 +15,5 @@ use Rattle.profile.specs.Freeze.{stopWord}
 use Rattle.profile.specs.Step.{accessed}
 
 unfoldable pub accessedBy : Owner → Hit → (state : List ℕ) → Answer → Outcome
-accessedBy (Of p) h t dead = record { answer = accessed h p (at t (stopWord p)) dead; effect = Keep }
-accessedBy (Nobody r) h t dead = refused r
+accessedBy (Of p) h t stopped = record { answer = accessed h p (at t (stopWord p)) stopped; effect = Keep }
+accessedBy (Nobody r) h t stopped = refused r

@@ -16,16 +16,16 @@ ghost use Rattle.profile.specs.Owner.{ofHit};
 ghost use Rattle.decision.specs.ByValue.{accessedBy};
 ghost use Rattle.decision.specs.Tables.{tables};
 
-// A load or store by its window; `dead` is its answer where the PE is MMIO stopped.
-pub(crate) fn access_of(sizes: Sizes, state: &[u64], hit: Hit, dead: Answer) -> Outcome
+// A load or store by its window; `stopped` is its answer where the PE is MMIO stopped.
+pub(crate) fn access_of(sizes: Sizes, state: &[u64], hit: Hit, stopped: Answer) -> Outcome
     requires { ⌜ sizes .pes ≤ 256 ⌝ }
-    ensures { λ r. ⌜ r ≡ accessedBy (ofHit (tables sizes [] [] [] [] []) hit) hit (now (state .entry)) dead ⌝ }
+    ensures { λ r. ⌜ r ≡ accessedBy (ofHit (tables sizes [] [] [] [] []) hit) hit (now (state .entry)) stopped ⌝ }
 {
     match owner::of_hit(sizes, hit) {
         Owner::Of(pe) => {
             let stop = endpoints::stop_word(state, pe);
             return Outcome {
-                answer: mmio::access(hit, pe, stop, dead),
+                answer: mmio::access(hit, pe, stop, stopped),
                 effect: Effect::Keep,
             };
         }

@@ -5,16 +5,10 @@ use kinds::words::put;
 use kinds::words::word;
 ghost use mathlib.Core.Path.{_≡_};
 ghost use Rattle.kinds.specs.Words.{at};
-ghost use Rattle.profile.specs.Freeze.{mmioStopped, dmaStopped, stopWord, released};
+ghost use Rattle.profile.specs.Freeze.{dmaStopped, stopWord, released};
 
 // Stop bits, reason, value.
 pub const STATE_WORDS: usize = 3;
-
-pub fn mmio_stopped(stop: u64) -> bool
-    ensures { λ r. ⌜ r ≡ mmioStopped stop ⌝ }
-{
-    stop % 2 == 1
-}
 
 pub fn dma_stopped(stop: u64) -> bool
     ensures { λ r. ⌜ r ≡ dmaStopped stop ⌝ }

@@ -17,14 +17,14 @@ use Rattle.profile.specs.Freeze.{mmioStopped}
 use Rattle.profile.specs.Step.{accessed}
 use Rattle.profile.specs.Windows.{onesOf}
 
-module _ {r : Answer} (x : Hit) (q : PeNumber) (w : ℕ) (dead : Answer) where
-  pub access-at : {n : ℕ} {c : ByteAddress} → x ≡ At n c → r ≡ cond (mmioStopped w) dead (Pass c q 0) → r ≡ accessed x q w dead
+module _ {r : Answer} (x : Hit) (q : PeNumber) (w : ℕ) (stopped : Answer) where
+  pub access-at : {n : ℕ} {c : ByteAddress} → x ≡ At n c → r ≡ cond (mmioStopped w) stopped (Pass c q 0) → r ≡ accessed x q w stopped
   unfolding accessed
   access-at e h = rw e h
 
-pub access-miss : (x : Hit) (q : PeNumber) (w : ℕ) (dead : Answer) → x ≡ Miss → dead ≡ accessed x q w dead
+pub access-miss : (x : Hit) (q : PeNumber) (w : ℕ) (stopped : Answer) → x ≡ Miss → stopped ≡ accessed x q w stopped
 unfolding accessed
-access-miss x q w dead e = rw e
+access-miss x q w stopped e = rw e
 
 module _ (w : ℕ) (h : w < 8) where
   bits-fit : 8 * w < 64

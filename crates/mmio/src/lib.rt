@@ -12,11 +12,11 @@ ghost use Rattle.profile.specs.Step.{accessed};
 ghost use Rattle.profile.specs.Windows.{onesOf};
 
 // A load or store that reached a window of a PE, by the PE's stop word.
-fn unless_stopped(address: ByteAddress, pe: PeNumber, stop: u64, dead: Answer) -> Answer
-    ensures { λ r. ⌜ r ≡ cond (mmioStopped stop) dead (Pass address pe 0) ⌝ }
+fn unless_stopped(address: ByteAddress, pe: PeNumber, stop: u64, stopped: Answer) -> Answer
+    ensures { λ r. ⌜ r ≡ cond (mmioStopped stop) stopped (Pass address pe 0) ⌝ }
 {
     if stop % 2 == 1 {
-        return dead;
+        return stopped;
     }
     Answer::Pass {
         address,
@@ -25,13 +25,13 @@ fn unless_stopped(address: ByteAddress, pe: PeNumber, stop: u64, dead: Answer) -
     }
 }
 
-// A load or store of a PE; `dead` is its answer where the PE is MMIO stopped.
-pub fn access(hit: Hit, pe: PeNumber, stop: u64, dead: Answer) -> Answer
-    ensures { λ r. ⌜ r ≡ accessed hit pe stop dead ⌝ }
+// A load or store of a PE; `stopped` is its answer where the PE is MMIO stopped.
+pub fn access(hit: Hit, pe: PeNumber, stop: u64, stopped: Answer) -> Answer
+    ensures { λ r. ⌜ r ≡ accessed hit pe stop stopped ⌝ }
 {
     match hit {
-        Hit::At { pe: _, pci } => unless_stopped(pci, pe, stop, dead),
-        Hit::Miss => dead,
+        Hit::At { pe: _, pci } => unless_stopped(pci, pe, stop, stopped),
+        Hit::Miss => stopped,
     }
 }
 

@@ -98,11 +98,11 @@ module _ {G : PeNumber → Bool} {f g : Tables} (w : Alike G f g) where
     mmio-bit-agrees : (p : PeNumber) → G p ≡ true → at (s .state) (stopWord p) % 2 ≡ at (t .state) (stopWord p) % 2
     mmio-bit-agrees p u = omega (arith, stop-agrees r p u)
 
-    accessed-agrees : (p : PeNumber) → G p ≡ true → (h : Hit) (dead : Answer)
-        → accessed h p (at (s .state) (stopWord p)) dead ≡ accessed h p (at (t .state) (stopWord p)) dead
+    accessed-agrees : (p : PeNumber) → G p ≡ true → (h : Hit) (stopped : Answer)
+        → accessed h p (at (s .state) (stopWord p)) stopped ≡ accessed h p (at (t .state) (stopWord p)) stopped
     unfolding accessed
-    accessed-agrees p u (At n c) dead = rw (mmio-bit-agrees p u)
-    accessed-agrees p u Miss dead = refl
+    accessed-agrees p u (At n c) stopped = rw (mmio-bit-agrees p u)
+    accessed-agrees p u Miss stopped = refl
 
     pub ask-agrees : (q : Request) → belongs G f s q ≡ true → (p : PeNumber) → G p ≡ true → ask f s p q ≡ ask g t p q
     unfolding ask owner

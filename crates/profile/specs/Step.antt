@@ -74,10 +74,10 @@ served class.Msi32 f s p d a n v = Ready (msi f s p a (number32 a v) (msiFormed 
 served class.Msi64 f s p d a n v = Ready (msi f s p a (number64 a v) (msiFormed d a n))
 served class.Unserved f s p d a n v = Ready (failed AddressClass a 0)
 
--- a load or store of PE p, by its window and its stop word; `dead` is its answer where the PE is MMIO stopped. One with no window has no PE
+-- a load or store of PE p, by its window and its stop word; `stopped` is its answer where the PE is MMIO stopped. One with no window has no PE
 unfoldable pub accessed : Hit → PeNumber → (stop : ℕ) → Answer → Answer
-accessed (At n c) p w dead = cond (mmioStopped w) dead (Pass c p 0)
-accessed Miss p w dead = dead
+accessed (At n c) p w stopped = cond (mmioStopped w) stopped (Pass c p 0)
+accessed Miss p w stopped = stopped
 
 unfoldable pub ask : Tables → Live → PeNumber → Request → Asked
 ask f s p (Dma r d a n v) =
