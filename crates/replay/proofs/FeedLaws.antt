@@ -1,4 +1,5 @@
 -- What the entry points of a replay cite.
+--     fits-on                     what fits goes on fitting
 --     fit-both, unfit, fit        whether the line's buffer and what is pending of it fit
 --     finish-none, finish-last    the end of the input
 -- Assumes nothing.
@@ -11,7 +12,7 @@ use native.Mathlib.Omega.{arith}
 use lib.Dec.{eqb, leb}
 use lib.ListN.{length, take}
 use lib.Seq.{length-take-le}
-use borrow.Author.Tests.{ne-eqb, eqb-true, leb-true}
+use borrow.Author.Tests.{ne-eqb, eq-eqb, eqb-true, le-leb, leb-true}
 use Rattle.kinds.specs.Tests.{by-cases, and-left, and-right}
 use Rattle.kinds.specs.declared.record.Lengths.{Lengths}
 use Rattle.stream.specs.Feed.{free, closable}
@@ -51,6 +52,10 @@ module _ (k : Lengths) (s : Stream) (a : ℕ) (o : List ℕ) where
         let f : free k s a (length o) ≡ false = sym (d .could) in
         (rw (e, f), d .stream ∙ rw f, d .out ∙ rw f)
 
+-- what fits goes on fitting
+pub fits-on : (l n : ℕ) → l ≡ lineKept → n ≤ lineKept → (eqb l lineKept && leb n lineKept) ≡ true
+fits-on l n h g = rw (eq-eqb l lineKept h, le-leb n lineKept g)
+
 -- the entry points
 module _ (p : Progress) (b : Buffers) (a : ℕ) {f : Bool} (e : f ≡ fits (b .line) p) where
   pub unfit : f ≡ false → fits (b .line) p ≡ false
@@ -63,13 +68,15 @@ module _ (p : Progress) (b : Buffers) (a : ℕ) {f : Bool} (e : f ≡ fits (b .l
     pub finish-none : p .pending ≡ 0 → FinishedAs p b a (To p a) b
     finish-none z =
         let d = nothing-pending (roomIn b) (streamIn p b) a (b .out) (none-pending (b .line) (p .pending) z) in
-        (fit, d .0, d .1)
+        (fit, d .0, d .1, fit)
 
     pub finish-last : (p .pending ≡ 0 → ⊥) → (c : Buffers) (x : Ended) →
-        EndedTo (roomIn b) (streamIn p b) a (b .out) (x .went) (streamIn (x .progress) c) (x .at) (c .out) → FinishedAs p b a (finishedBy x) c
-    finish-last z c x d =
+        EndedTo (roomIn b) (streamIn p b) a (b .out) (x .went) (streamIn (x .progress) c) (x .at) (c .out) →
+        length (c .line) ≡ length (b .line) → x .progress .pending ≤ p .pending → FinishedAs p b a (finishedBy x) c
+    finish-last z c x d m n =
         let g = fit-both (length (b .line)) (p .pending) e h in
         let s = some-pending (b .line) (p .pending) (g .0) (g .1) z in
+        let o = fits-on (length (c .line)) (x .progress .pending) (m ∙ g .0) (omega (arith, n, g .1)) in
         by-cases (x .went)
-        (λ w. let y = last-ended (roomIn b) (streamIn p b) a (b .out) s (rw w at d) in rw w (fit, y .0, y .1))
-        (λ w. let y = last-stays (roomIn b) (streamIn p b) a (b .out) s (rw w at d) in rw w (fit, y .0, y .1, y .2))
+        (λ w. let y = last-ended (roomIn b) (streamIn p b) a (b .out) s (rw w at d) in rw w (fit, y .0, y .1, o))
+        (λ w. let y = last-stays (roomIn b) (streamIn p b) a (b .out) s (rw w at d) in rw w (fit, y .0, y .1, y .2, o))

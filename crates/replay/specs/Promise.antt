@@ -152,7 +152,8 @@ pub record Started (p : Progress) : Type 0 where
   pub whole : Whole
 
 abbrev pub FedAs : Progress → Buffers → ℕ → List ℕ → Fed → Buffers → Type 0
-FedAs p b a l (To q n z) c = (fits (b .line) p ≡ true) × FedTo (roomIn b) (streamIn p b) a (b .out) l n (streamIn q c) z (c .out)
+FedAs p b a l (To q n z) c =
+    (fits (b .line) p ≡ true) × FedTo (roomIn b) (streamIn p b) a (b .out) l n (streamIn q c) z (c .out) × (fits (c .line) q ≡ true)
 FedAs p b a l Unfit c = (fits (b .line) p ≡ false) × (c ≡ b)
 
 -- the end of the input where it can be taken
@@ -165,6 +166,8 @@ pub record ClosedTo (s : Stream) (a : ℕ) (o : List ℕ) (t : Stream) (z : ℕ)
 abbrev pub FinishedAs : Progress → Buffers → ℕ → Finished → Buffers → Type 0
 FinishedAs p b a (FinishedTo q z) c =
     (fits (b .line) p ≡ true) × (closable (roomIn b) (streamIn p b) a (length (b .out)) ≡ true) × ClosedTo (streamIn p b) a (b .out) (streamIn q c) z (c .out)
+    × (fits (c .line) q ≡ true)
 FinishedAs p b a (NoRoomLeft q) c =
     (fits (b .line) p ≡ true) × (closable (roomIn b) (streamIn p b) a (length (b .out)) ≡ false) × (streamIn q c ≡ streamIn p b) × (c .out ≡ b .out)
+    × (fits (c .line) q ≡ true)
 FinishedAs p b a UnfitToo c = (fits (b .line) p ≡ false) × (c ≡ b)

@@ -136,7 +136,7 @@ pub(crate) fn take_bytes(
     at: usize,
 ) -> Taken
     requires { ⌜ (length (now line) ≡ lineKept) × (progress .pending ≤ lineKept) ⌝ }
-    ensures { λ r. ⌜ FedTo (lengthsOf (now (requesters .entry)) (now (entries .entry)) (now (memory .entry)) (now (peers .entry)) (now (interrupts .entry)) (now (windows .entry)) (now (segments .entry)) (now (state .entry))) (streamOf progress (now (line .entry)) (now (requesters .entry)) (now (entries .entry)) (now (memory .entry)) (now (peers .entry)) (now (interrupts .entry)) (now (windows .entry)) (now (segments .entry)) (now (state .entry))) at (now (out .entry)) (now (input .entry)) (r .bytes) (streamOf (r .progress) (now (line .exit)) (now (requesters .exit)) (now (entries .exit)) (now (memory .exit)) (now (peers .exit)) (now (interrupts .exit)) (now (windows .exit)) (now (segments .exit)) (now (state .exit))) (r .at) (now (out .exit)) ⌝ }
+    ensures { λ r. ⌜ (FedTo (lengthsOf (now (requesters .entry)) (now (entries .entry)) (now (memory .entry)) (now (peers .entry)) (now (interrupts .entry)) (now (windows .entry)) (now (segments .entry)) (now (state .entry))) (streamOf progress (now (line .entry)) (now (requesters .entry)) (now (entries .entry)) (now (memory .entry)) (now (peers .entry)) (now (interrupts .entry)) (now (windows .entry)) (now (segments .entry)) (now (state .entry))) at (now (out .entry)) (now (input .entry)) (r .bytes) (streamOf (r .progress) (now (line .exit)) (now (requesters .exit)) (now (entries .exit)) (now (memory .exit)) (now (peers .exit)) (now (interrupts .exit)) (now (windows .exit)) (now (segments .exit)) (now (state .exit))) (r .at) (now (out .exit))) × (r .progress .pending ≤ lineKept) ⌝ }
 {
     let mut p = progress;
     let mut end = at;

@@ -1,6 +1,8 @@
 -- `replay::feed` meets its contract. Assumes nothing.
-use mathlib.Core.Path.{refl}
+use mathlib.Core.Path.{refl, _∙_}
+use native.Mathlib.Omega.{arith}
 use denote.Ref.{now}
+use lib.ListN.{length}
 use Rattle.replay.specs.Promise.{buffers}
 use Rattle.replay.proofs.FeedLaws as laws
 use borrow.Author.Needs.{needs}
@@ -46,7 +48,9 @@ same-length-10 c = search needs
 returns : tie.Need-returns
 returns c =
     let given = c .before .before .before .before .before .before .before .before .before .before .before .before .before .before .before .before .before .before .before .before .before .before .before .before .before .before .before .before .before .before .before .before .before .before .before .before .before .before .before .before .before .before .before .before .before .args in
-    (laws.fit (given .progress) (buffers (now (given .requesters)) (now (given .entries)) (now (given .memory)) (now (given .peers)) (now (given .interrupts)) (now (given .windows)) (now (given .segments)) (now (given .state)) (now (given .line)) (now (given .out))) (given .at) (c .before .before .before .before .before .before .before .before .before .before .before .before .before .before .before .before .before .before .before .before .before .before .before .before .before .before .before .before .before .before .before .before .before .fit .ensures) (c .before .before .before .before .before .before .before .before .before .before .before .before .before .before .before .before .before .before .before .before .before .before .before .before .before .before .before .before .before .before .before .before .if1 .taken), c .before .before .before .before .before .before .before .before .before .before .before .before .before .before .before .before .before .before .before .before .before .take-bytes .ensures)
+    let call = c .before .before .before .before .before .before .before .before .before .before .before .before .before .before .before .before .before .before .before .before .before .take-bytes in
+    let both = laws.fit-both (length (now (given .line))) (given .progress .pending) (c .before .before .before .before .before .before .before .before .before .before .before .before .before .before .before .before .before .before .before .before .before .before .before .before .before .before .before .before .before .before .before .before .before .fit .ensures) (c .before .before .before .before .before .before .before .before .before .before .before .before .before .before .before .before .before .before .before .before .before .before .before .before .before .before .before .before .before .before .before .before .if1 .taken) in
+    (laws.fit (given .progress) (buffers (now (given .requesters)) (now (given .entries)) (now (given .memory)) (now (given .peers)) (now (given .interrupts)) (now (given .windows)) (now (given .segments)) (now (given .state)) (now (given .line)) (now (given .out))) (given .at) (c .before .before .before .before .before .before .before .before .before .before .before .before .before .before .before .before .before .before .before .before .before .before .before .before .before .before .before .before .before .before .before .before .before .fit .ensures) (c .before .before .before .before .before .before .before .before .before .before .before .before .before .before .before .before .before .before .before .before .before .before .before .before .before .before .before .before .before .before .before .before .if1 .taken), call .ensures .0, laws.fits-on _ _ (call .kept .1 .1 .1 .1 .1 .1 .1 .1 .1 .0 ∙ both .0) (call .ensures .1))
 
 returns-2 : tie.Need-returns-2
 returns-2 c =

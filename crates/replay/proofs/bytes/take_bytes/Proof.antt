@@ -87,8 +87,10 @@ same-length-10 c = omega (arith, c .before .before .before .before .before .befo
 returns : tie.Need-returns Inv-loop μ-loop
 returns c =
     let call = c .before .before .before .before .before .before .before .before .before .before .before .before .before .before .before .before .before .before .before .before .before .before .take-line in
-    let here = c .before .before .before .before .before .before .before .before .before .before .before .before .before .before .before .before .before .before .before .before .before .before .before .before .before .before .before .before .before .before .before .before .before .before .loop .inv in
-    laws.run-stop (here .13) (laws.lengths-same _ _ _ _ _ _ _ _ (here .5) (here .6) (here .7) (here .8) (here .9) (here .10) (here .11) (here .12)) (rw (c .if1 .left) at (call .ensures .0))
+    let here = c .before .before .before .before .before .before .before .before .before .before .before .before .before .before .before .before .before .before .before .before .before .before .before .before .before .before .before .before .before .before .before .before .before .before .loop .inv in (
+      laws.run-stop (here .13) (laws.lengths-same _ _ _ _ _ _ _ _ (here .5) (here .6) (here .7) (here .8) (here .9) (here .10) (here .11) (here .12)) (rw (c .if1 .left) at (call .ensures .0)),
+      call .ensures .1,
+    )
 
 same-length-11 : tie.Need-same-length-11 Inv-loop μ-loop
 same-length-11 c = search needs
@@ -121,7 +123,7 @@ same-length-20 : tie.Need-same-length-20 Inv-loop μ-loop
 same-length-20 c = search needs
 
 returns-2 : tie.Need-returns-2 Inv-loop μ-loop
-returns-2 c = laws.run-done (c .before .loop .inv .13) (c .loop-test .left)
+returns-2 c = (laws.run-done (c .before .loop .inv .13) (c .loop-test .left), c .before .loop .inv .3)
 
 pub take-bytes-spec : {M : Type 1} → statement M
 take-bytes-spec =
