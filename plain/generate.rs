@@ -1021,7 +1021,7 @@ impl Generator {
         self.put_text(line)
     }
 
-    /// An interrupt number: mostly one below M, often a hot one.
+    /// An interrupt number: mostly one below M, often one that is used more than others.
     fn some_interrupt(&mut self) -> u64 {
         match self.random.below(20) {
             0 => self.m,
@@ -1199,7 +1199,7 @@ impl Generator {
 
     // ---- Release ----
 
-    /// Keeps in mind that a PE and its peers are probably stopped.
+    /// Notes that a PE and its peers are probably stopped.
     fn expect_freeze(&mut self, pe: u64) {
         if pe < self.n {
             self.stopped |= 1 << pe | self.word(PEERS, 4 * pe);
