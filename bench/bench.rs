@@ -18,11 +18,19 @@ mod bridge;
 #[path = "../tests/celltimber.rs"]
 #[allow(dead_code)]
 mod celltimber;
+#[path = "../plain/random.rs"]
+#[allow(dead_code)]
+mod random;
+#[path = "../tests/words.rs"]
+#[allow(dead_code)]
+mod words;
 
 use bridge::{Answer, Bridge, Name, Part, Request};
 use celltimber::*;
+use random::Random;
 use std::process::exit;
 use std::time::Instant;
+use words::{answer_words, run_proved};
 
 /// Stands in answer words before a call.
 const UNWRITTEN: u64 = 0x5555_AAAA_5555_AAAA;
@@ -40,24 +48,6 @@ const NO_ANSWER: Answer = Answer {
 
 /// Repetitions of each work, if the command names no other number.
 const REPETITIONS: usize = 7;
-
-/// SplitMix64.
-struct Random(u64);
-
-impl Random {
-    fn next(&mut self) -> u64 {
-        self.0 = self.0.wrapping_add(0x9E37_79B9_7F4A_7C15);
-        let mut z = self.0;
-        z = (z ^ (z >> 30)).wrapping_mul(0xBF58_476D_1CE4_E5B9);
-        z = (z ^ (z >> 27)).wrapping_mul(0x94D0_49BB_1331_11EB);
-        z ^ (z >> 31)
-    }
-
-    /// 0 to limit - 1.
-    fn below(&mut self, limit: u64) -> u64 {
-        self.next() % limit
-    }
-}
 
 // ---- The plain bridge, from words to words ----
 
@@ -90,22 +80,6 @@ fn decode(words: &[u64]) -> Request {
     }
 }
 
-fn answer_words(answer: Answer) -> AnswerWords {
-    let name = match answer.name {
-        Name::Pass => PASS,
-        Name::Msi => MSI,
-        Name::Held => HELD,
-        Name::Ones => ONES,
-        Name::Drop => DROP,
-        Name::Refuse => REFUSE,
-        Name::Done => DONE,
-    };
-    let pe = answer.pe.unwrap_or(0);
-    let server = answer.server.unwrap_or(0);
-    let priority = answer.priority.unwrap_or(0);
-    [name, answer.reason, answer.value, answer.words, pe, server, priority, 0]
-}
-
 fn run_plain(tables: &mut Bridge, requests: &[u64], answers: &mut [u64]) -> usize {
     let asked = requests.chunks_exact(REQUEST_WORDS);
     let room = answers.chunks_exact_mut(ANSWER_WORDS);
@@ -115,26 +89,6 @@ fn run_plain(tables: &mut Bridge, requests: &[u64], answers: &mut [u64]) -> usiz
         count += 1;
     }
     count
-}
-
-// ---- The proved bridge ----
-
-fn run_proved(tables: &mut Bridge, requests: &[u64], answers: &mut [u64]) -> usize {
-    run(
-        tables.n,
-        tables.m,
-        tables.r,
-        &tables.requesters,
-        &tables.translation,
-        &tables.memory,
-        &tables.peers,
-        &mut tables.interrupts,
-        &tables.windows,
-        &tables.segments,
-        &mut tables.state,
-        requests,
-        answers,
-    )
 }
 
 // ---- Work ----

@@ -4,7 +4,7 @@
 //     crates list     a line to each crate: its name, the first sentence of its source, what it is over
 //
 // Run in the root of the repository; docs/draw-crates does that. A use that others imply is left
-// out. Nothing here knows a crate by its name.
+// out. No crate is named here.
 
 use std::collections::HashMap;
 use std::env;
@@ -277,7 +277,7 @@ fn mean_x(nodes: &[Node], node: usize) -> f64 {
 /// The places nearest to the wanted ones, by least squares: neighbours that would overlap are
 /// joined into a group that moves as one.
 fn place_row(nodes: &mut [Node], row: &[usize], wanted: &[f64]) {
-    // a group: its first place in the row, and the sum and the number of its members' wishes
+    // a group: its first place in the row, and the sum and the number of the places that its members want
     let mut groups: Vec<(usize, f64, f64)> = Vec::new();
     let mut shift = vec![0.0; row.len()];
     for k in 0..row.len() {

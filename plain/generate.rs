@@ -3,65 +3,15 @@
 //     generate SEED LINES
 //
 // Writes about LINES lines to standard output; the same seed gives the same bytes
-// on every machine. The input is a series of scenes: a size line, good tables for
-// several PEs, then requests on them mixed with edits and damaged lines.
+// on every machine. The input is a series of bridges: of each a size line, good tables
+// for several PEs, then requests on them mixed with changes of the tables and damaged lines.
 
+mod random;
+
+use random::Random;
 use std::env;
 use std::io::{self, BufWriter, Write};
 use std::process;
-
-/// SplitMix64.
-struct Random(u64);
-
-impl Random {
-    fn next(&mut self) -> u64 {
-        self.0 = self.0.wrapping_add(0x9E37_79B9_7F4A_7C15);
-        let mut z = self.0;
-        z = (z ^ (z >> 30)).wrapping_mul(0xBF58_476D_1CE4_E5B9);
-        z = (z ^ (z >> 27)).wrapping_mul(0x94D0_49BB_1331_11EB);
-        z ^ (z >> 31)
-    }
-
-    /// 0 to limit - 1; 0 if the limit is 0.
-    fn below(&mut self, limit: u64) -> u64 {
-        if limit == 0 {
-            0
-        } else {
-            self.next() % limit
-        }
-    }
-
-    /// low to high, both included.
-    fn between(&mut self, low: u64, high: u64) -> u64 {
-        low + self.below(high - low + 1)
-    }
-
-    fn percent(&mut self, percent: u64) -> bool {
-        self.below(100) < percent
-    }
-
-    fn pick<T: Copy>(&mut self, choices: &[T]) -> T {
-        choices[self.below(choices.len() as u64) as usize]
-    }
-
-    /// The place of a weight, drawn by weight.
-    fn weighted(&mut self, weights: &[u64]) -> usize {
-        let mut left = self.below(weights.iter().sum());
-        for (place, &weight) in weights.iter().enumerate() {
-            if left < weight {
-                return place;
-            }
-            left -= weight;
-        }
-        weights.len() - 1
-    }
-
-    /// A number of any width up to 64 bits.
-    fn any(&mut self) -> u64 {
-        let bits = self.below(64);
-        self.next() >> bits
-    }
-}
 
 const TABLES: [&str; 8] =
     ["requesters", "translation", "memory", "peers", "interrupts", "windows", "segments", "state"];
@@ -104,8 +54,8 @@ struct Generator {
     /// The tables as the set lines left them, in the order of TABLES.
     tables: Vec<Vec<u64>>,
     known: Vec<Known>,
-    /// Interrupts that are used more than others.
-    hot: Vec<u64>,
+    /// Interrupts that are asked for more often than others.
+    frequent: Vec<u64>,
     /// PEs that are probably stopped, by bits.
     stopped: u64,
 }
@@ -124,7 +74,7 @@ impl Generator {
             words: 0,
             tables: vec![Vec::new(); 8],
             known: Vec::new(),
-            hot: Vec::new(),
+            frequent: Vec::new(),
             stopped: 0,
         }
     }
@@ -221,7 +171,7 @@ impl Generator {
     fn run(&mut self) {
         self.before_size();
         while !self.full() {
-            self.scene();
+            self.bridge();
         }
         self.finish()
     }
@@ -265,7 +215,8 @@ impl Generator {
         }
     }
 
-    fn scene(&mut self) {
+    /// A size line, good tables, and requests on them.
+    fn bridge(&mut self) {
         self.size();
         self.build();
         let steps = self.random.between(500, 2_500);
@@ -320,7 +271,7 @@ impl Generator {
         self.tables = lengths.iter().map(|&length| vec![0; length as usize]).collect();
         self.known.clear();
         self.stopped = 0;
-        self.hot = (0..3).map(|_| self.random.below(m)).collect();
+        self.frequent = (0..3).map(|_| self.random.below(m)).collect();
     }
 
     // ---- Good tables ----
@@ -359,7 +310,7 @@ impl Generator {
             }
         }
         if self.random.percent(30) {
-            // Senseless bits above the stop bits, and records that are not empty.
+            // Bits above the stop bits, and records that are not empty.
             for pe in 0..self.n {
                 let stop = self.random.next() & !3 | self.random.pick(&[0, 0, 0, 1, 2, 3]);
                 self.set(STATE, 3 * pe, stop);
@@ -468,7 +419,7 @@ impl Generator {
             for level in (0..levels).rev() {
                 let room = table_words.min(self.words - table);
                 let mut index = 0;
-                // Rather a word that is free, or an upper one that leads on.
+                // Mostly a word that is free, or an upper one that leads on.
                 for _ in 0..6 {
                     index = match self.random.below(6) {
                         0 => 0,
@@ -516,8 +467,8 @@ impl Generator {
     fn upper_word(&mut self, table_words: u64) -> u64 {
         let tables = (self.words / table_words).max(1);
         let base = self.random.below(tables) * 8 * table_words;
-        let junk = if self.random.percent(30) { self.random.next() & 0xFFC } else { 0 };
-        base | junk | self.random.between(1, 3)
+        let ignored = if self.random.percent(30) { self.random.next() & 0xFFC } else { 0 };
+        base | ignored | self.random.between(1, 3)
     }
 
     fn build_bypass(&mut self, pe: u64, record: u64) {
@@ -659,12 +610,12 @@ impl Generator {
         }
     }
 
-    /// A good interrupt, or one with a senseless word.
+    /// A good interrupt, or one with a word off its limits.
     fn build_interrupt(&mut self, number: u64) {
-        let odd = if self.random.percent(12) { self.random.below(4) } else { 4 };
+        let off = if self.random.percent(12) { self.random.below(4) } else { 4 };
         for place in 0..4 {
-            let value = if place == odd {
-                self.odd_interrupt_word(place)
+            let value = if place == off {
+                self.interrupt_word_off_limits(place)
             } else {
                 self.interrupt_word(place)
             };
@@ -692,7 +643,7 @@ impl Generator {
         }
     }
 
-    fn odd_interrupt_word(&mut self, place: u64) -> u64 {
+    fn interrupt_word_off_limits(&mut self, place: u64) -> u64 {
         let pe = self.some_pe();
         match place {
             0 => self.random.pick(&[self.n, (1 << 16) + pe, (1 << 32) + pe, 256 + pe, MAX]),
@@ -807,7 +758,7 @@ impl Generator {
                 let line = self.any_clear();
                 self.put_text(line)
             }
-            11 => self.edit(),
+            11 => self.change(),
             12 => self.damaged(),
             13 => {
                 let line = self.size_off_limits();
@@ -1021,12 +972,12 @@ impl Generator {
         self.put_text(line)
     }
 
-    /// An interrupt number: mostly one below M, often one that is used more than others.
+    /// An interrupt number: mostly one below M, often one of the frequent.
     fn some_interrupt(&mut self) -> u64 {
         match self.random.below(20) {
             0 => self.m,
             1 => self.random.below(64),
-            2..=11 if !self.hot.is_empty() => self.random.pick(&self.hot),
+            2..=11 if !self.frequent.is_empty() => self.random.pick(&self.frequent),
             _ => self.random.below(self.m),
         }
     }
@@ -1038,7 +989,7 @@ impl Generator {
         } else {
             self.some_pe()
         };
-        // The number is parted between address and data; bits may stand in both.
+        // The number is split between address and data; bits may stand in both.
         let in_data = number & 31 & self.random.next();
         let in_address = number & !in_data | number & self.random.next();
         let mut data = in_data;
@@ -1057,8 +1008,8 @@ impl Generator {
         }
         let mut write = true;
         let mut length = 4;
-        let odd = self.random.percent(15);
-        if odd {
+        let altered = self.random.percent(15);
+        if altered {
             match self.random.below(7) {
                 0 => write = false,
                 1 => length = self.random.pick(&[1, 2, 3, 5, 8]),
@@ -1073,7 +1024,7 @@ impl Generator {
         let requester = self.requester_of(pe);
         let line = self.dma_line(requester, write, address, length, data);
         self.put_text(line);
-        if odd || self.random.percent(50) {
+        if altered || self.random.percent(50) {
             self.expect_freeze(pe);
         }
     }
@@ -1091,7 +1042,7 @@ impl Generator {
     }
 
     fn window_line(&mut self) -> String {
-        // M32 is the first; its segment table makes it worth more.
+        // M32 comes first; it is asked for more often, for it has the segment table.
         let at = match self.random.below(20) {
             0..=5 => 0,
             _ => 3 + 4 * self.random.below(16),
@@ -1171,7 +1122,7 @@ impl Generator {
         self.clear_line(pe, part)
     }
 
-    /// Any request, sense or not.
+    /// Any request, good or not.
     fn any_request(&mut self) -> String {
         match self.random.below(7) {
             0 => {
@@ -1241,10 +1192,10 @@ impl Generator {
         }
     }
 
-    // ---- Edits ----
+    // ---- Changes of the tables ----
 
     /// Changes a word or a record of a table.
-    fn edit(&mut self) {
+    fn change(&mut self) {
         match self.random.weighted(&[8, 20, 12, 6, 20, 14, 8, 8]) {
             0 => {
                 let requester = self.random.below(self.r);
@@ -1271,7 +1222,7 @@ impl Generator {
                     _ => self.build_record(pe, record),
                 }
             }
-            2 => self.edit_memory(),
+            2 => self.change_memory(),
             3 => {
                 let pe = self.some_pe();
                 self.build_peers(pe)
@@ -1283,7 +1234,7 @@ impl Generator {
                 }
                 let place = self.random.below(4);
                 let value = if self.random.percent(20) {
-                    self.odd_interrupt_word(place)
+                    self.interrupt_word_off_limits(place)
                 } else {
                     self.interrupt_word(place)
                 };
@@ -1317,7 +1268,7 @@ impl Generator {
     }
 
     /// Changes a memory word that a walk may read.
-    fn edit_memory(&mut self) {
+    fn change_memory(&mut self) {
         if self.words == 0 {
             return;
         }

@@ -9,52 +9,26 @@
 
 #[path = "celltimber.rs"]
 mod celltimber;
+#[path = "../plain/random.rs"]
+#[allow(dead_code)]
+mod random;
 #[path = "../plain/replay.rs"]
 #[allow(dead_code)]
 mod replay;
+mod words;
 
 use celltimber::*;
-use replay::bridge::{Answer, Bridge, Name, Part, Request};
+use random::Random;
+use replay::bridge::{self, Bridge, Part, Request};
 use replay::Line;
 use std::fmt::LowerHex;
 use std::process::{exit, Command, Stdio};
+use words::{answer_words, request_words, run_proved};
 
 /// Stands in answer words before a call.
 const UNWRITTEN: u64 = 0x5555_AAAA_5555_AAAA;
 
-// ---- Words ----
-
-fn request_words(request: Request) -> RequestWords {
-    match request {
-        Request::Dma { requester, write, address, length, data } => {
-            dma(requester, if write { WRITE } else { READ }, address, length, u64::from(data))
-        }
-        Request::Load { address, width } => load(address, width),
-        Request::Store { address, width } => store(address, width),
-        Request::Error { requester } => error(requester),
-        Request::Clear { pe, part: Part::Mmio } => clear(pe, MMIO_BIT),
-        Request::Clear { pe, part: Part::Dma } => clear(pe, DMA_BIT),
-        Request::Clear { pe, part: Part::Record } => clear(pe, RECORD),
-        Request::End { interrupt } => end(interrupt),
-        Request::Priority { interrupt, priority: value } => priority(interrupt, value),
-    }
-}
-
-fn answer_words(answer: Answer) -> AnswerWords {
-    let name = match answer.name {
-        Name::Pass => PASS,
-        Name::Msi => MSI,
-        Name::Held => HELD,
-        Name::Ones => ONES,
-        Name::Drop => DROP,
-        Name::Refuse => REFUSE,
-        Name::Done => DONE,
-    };
-    let pe = answer.pe.unwrap_or(0);
-    let server = answer.server.unwrap_or(0);
-    let priority = answer.priority.unwrap_or(0);
-    [name, answer.reason, answer.value, answer.words, pe, server, priority, 0]
-}
+// ---- Both bridges ----
 
 /// A request with its words.
 #[derive(Clone, Copy)]
@@ -73,8 +47,6 @@ impl Asked {
         Asked { request: Request::Load { address: 0, width: 0 }, words }
     }
 }
-
-// ---- Both bridges ----
 
 /// How often each answer and each reason came.
 #[derive(Default)]
@@ -105,30 +77,12 @@ struct Pair {
     proved: Bridge,
 }
 
-fn serve(tables: &mut Bridge, requests: &[u64], answers: &mut [u64]) -> usize {
-    run(
-        tables.n,
-        tables.m,
-        tables.r,
-        &tables.requesters,
-        &tables.translation,
-        &tables.memory,
-        &tables.peers,
-        &mut tables.interrupts,
-        &tables.windows,
-        &tables.segments,
-        &mut tables.state,
-        requests,
-        answers,
-    )
-}
-
 impl Pair {
     /// Both answer one request.
     fn ask(&mut self, asked: &Asked, counts: &mut Counts) -> Result<AnswerWords, String> {
         let wanted = answer_words(self.plain.handle(asked.request));
         let mut answers = [UNWRITTEN; ANSWER_WORDS + 1];
-        let count = serve(&mut self.proved, &asked.words, &mut answers);
+        let count = run_proved(&mut self.proved, &asked.words, &mut answers);
         let given = &answers[..ANSWER_WORDS];
         let told = |difference| {
             let words = asked.words;
@@ -160,7 +114,7 @@ impl Pair {
     ) -> Result<(), String> {
         let requests: Vec<u64> = all.iter().flat_map(|asked| asked.words).collect();
         let mut given = vec![UNWRITTEN; ANSWER_WORDS * wanted.len()];
-        let count = serve(&mut self.proved, &requests, &mut given);
+        let count = run_proved(&mut self.proved, &requests, &mut given);
         if count != all.len() {
             return Err(format!("{} requests, {} served", all.len(), count));
         }
@@ -224,42 +178,7 @@ fn compare_text(text: &[u8], counts: &mut Counts) -> Result<(), String> {
 
 // ---- Tables beyond the text ----
 
-/// SplitMix64.
-struct Random(u64);
-
 impl Random {
-    fn next(&mut self) -> u64 {
-        self.0 = self.0.wrapping_add(0x9E37_79B9_7F4A_7C15);
-        let mut z = self.0;
-        z = (z ^ (z >> 30)).wrapping_mul(0xBF58_476D_1CE4_E5B9);
-        z = (z ^ (z >> 27)).wrapping_mul(0x94D0_49BB_1331_11EB);
-        z ^ (z >> 31)
-    }
-
-    /// 0 to limit - 1; 0 if the limit is 0.
-    fn below(&mut self, limit: u64) -> u64 {
-        self.next() % limit.max(1)
-    }
-
-    /// low to high, both included.
-    fn between(&mut self, low: u64, high: u64) -> u64 {
-        low + self.below(high - low + 1)
-    }
-
-    fn percent(&mut self, percent: u64) -> bool {
-        self.below(100) < percent
-    }
-
-    fn pick(&mut self, choices: &[u64]) -> u64 {
-        choices[self.below(choices.len() as u64) as usize]
-    }
-
-    /// A number of any width up to 64 bits.
-    fn any(&mut self) -> u64 {
-        let bits = self.below(64);
-        self.next() >> bits
-    }
-
     /// Mostly a number below the limit; else the limit, a number that is it in fewer bits, or any.
     fn mostly_below(&mut self, limit: u64) -> u64 {
         let below = self.below(limit);
@@ -272,18 +191,18 @@ impl Random {
     }
 }
 
-/// Tables and requests on them.
-struct Scene {
+/// A pair of bridges, and requests on them.
+struct Generator {
     random: Random,
     pair: Pair,
     /// A requester of each PE, or 0.
     requester_of: Vec<u64>,
-    /// Interrupts that are used more than others.
-    hot: [u64; 3],
+    /// Interrupts that are asked for more often than others.
+    frequent: [u64; 3],
 }
 
-impl Scene {
-    fn new(mut random: Random, large: bool) -> Scene {
+impl Generator {
+    fn new(mut random: Random, large: bool) -> Generator {
         let n = match random.below(4) {
             0 => random.pick(&[1, 63, 64, 65, 128, 129, 192, 193]),
             1 => random.pick(&[255, 256, 256]),
@@ -304,13 +223,14 @@ impl Scene {
             0 => random.pick(&[0, 1, 511, 512, 513]),
             _ => random.between(1_024, 16_384),
         };
-        let hot = [random.below(m), random.below(m), m.saturating_sub(1)];
+        let frequent = [random.below(m), random.below(m), m.saturating_sub(1)];
         let plain = Bridge::new(n, m, r, words);
         let pair = Pair { proved: plain.clone(), plain };
-        let mut scene = Scene { random, pair, requester_of: vec![0; n as usize], hot };
-        scene.fill();
-        scene.pair.proved = scene.pair.plain.clone();
-        scene
+        let requester_of = vec![0; n as usize];
+        let mut generator = Generator { random, pair, requester_of, frequent };
+        generator.fill();
+        generator.pair.proved = generator.pair.plain.clone();
+        generator
     }
 
     // ---- Words of the tables ----
@@ -424,7 +344,7 @@ impl Scene {
 
     fn interrupt(&mut self) -> u64 {
         if self.random.percent(60) {
-            return self.random.pick(&self.hot);
+            return self.random.pick(&self.frequent);
         }
         let m = self.pair.plain.m;
         self.random.mostly_below(m)
@@ -657,37 +577,37 @@ fn m64(random: &mut Random, number: u64, n: u64) -> [u64; 4] {
     window
 }
 
-/// Tables to each seed.
-const SCENES: u64 = 6;
+/// Bridges to each seed, beside the replay text.
+const BRIDGES: u64 = 6;
 
 /// The kinds of wrong lengths; each seed has one.
 const WRONG_LENGTHS: u64 = 23;
 
-/// Requests on one scene, one by one and then in one list.
-fn compare_scene(seed: u64, number: u64, counts: &mut Counts) -> Result<(), String> {
+/// Requests on one bridge, one by one and then in one list.
+fn compare_bridge(seed: u64, number: u64, counts: &mut Counts) -> Result<(), String> {
     let large = number == 0 && seed % 3 == 0;
-    let mut scene = Scene::new(Random(seed << 8 | number), large);
+    let mut generator = Generator::new(Random(seed << 8 | number), large);
     match number {
-        1 => scene.put_wrong_length(seed % WRONG_LENGTHS),
-        2 => scene.put_any_words(),
+        1 => generator.put_wrong_length(seed % WRONG_LENGTHS),
+        2 => generator.put_any_words(),
         _ => {}
     }
     // Fewer where memory may be of full size.
     let limit = if large || number == 1 { 40 } else { 600 };
-    let mut again = scene.pair.clone();
+    let mut again = generator.pair.clone();
     let (mut all, mut answers) = (Vec::new(), Vec::new());
     while all.len() < limit {
-        for asked in scene.requests() {
-            let answer = scene.pair.ask(&asked, counts).map_err(|difference| {
-                format!("tables {}, request {}:\n{}", number, all.len() + 1, difference)
+        for asked in generator.requests() {
+            let answer = generator.pair.ask(&asked, counts).map_err(|difference| {
+                format!("bridge {}, request {}:\n{}", number, all.len() + 1, difference)
             })?;
             all.push(asked);
             answers.push(answer);
         }
     }
     again
-        .ask_all(&all, &answers, &scene.pair)
-        .map_err(|difference| format!("tables {}, one list:\n{}", number, difference))
+        .ask_all(&all, &answers, &generator.pair)
+        .map_err(|difference| format!("bridge {}, one list:\n{}", number, difference))
 }
 
 // ---- The program ----
@@ -711,8 +631,8 @@ fn compare(generate: &str, seeds: u64, lines: u64) -> Result<(), String> {
         let of_seed = |difference| format!("seed {}, {}", seed, difference);
         let input = generated(generate, seed, lines)?;
         compare_text(&input, &mut text).map_err(of_seed)?;
-        for number in 0..SCENES {
-            compare_scene(seed, number, &mut tables).map_err(of_seed)?;
+        for number in 0..BRIDGES {
+            compare_bridge(seed, number, &mut tables).map_err(of_seed)?;
         }
     }
     for (name, counts) in [("replay text", text), ("tables beyond it", tables)] {

@@ -49,7 +49,7 @@ fn whole(input: &[u8]) -> Vec<u8> {
     out
 }
 
-/// Says where two outputs part, and returns whether they are the same.
+/// Says where two outputs differ, and returns whether they are the same.
 fn same(file: &str, length: usize, found: &[u8], expected: &[u8]) -> bool {
     if found == expected {
         return true;

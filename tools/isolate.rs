@@ -5,6 +5,8 @@
 // Whom a request belongs to, whether the group is closed, which table words are public or the group's,
 // and the answers come from proved functions. The premises are those of crates/groups/specs/SeenLaws.antt,
 // `isolated-run`; one that fails is named, and then nothing is compared.
+//
+// Exit 0: all is the same. 1: a premise fails, or an answer or a word left differs. 2: it could not be tried.
 
 #[path = "../tests/celltimber.rs"]
 #[allow(dead_code)]
@@ -12,13 +14,18 @@ mod celltimber;
 #[path = "../plain/replay.rs"]
 #[allow(dead_code)]
 mod replay;
+#[path = "../tests/words.rs"]
+#[allow(dead_code)]
+mod words;
 
 use celltimber::*;
-use replay::bridge::{Part, Request};
-use replay::{Line, Table};
+use replay::bridge::{self, Bridge};
+use replay::{Line, Outcome, Table};
 use std::env;
 use std::fs;
+use std::io::{self, Write};
 use std::process::exit;
+use words::{request_words, run_proved};
 
 // ---- The proved functions of crates/groups/src/export.rt ----
 
@@ -83,15 +90,15 @@ fn member(group: &Group, number: u64) -> bool {
     unsafe { celltimber_member(group.as_ptr(), group.len(), number) == 1 }
 }
 
-fn closed(tables: &Tables, group: &Group) -> bool {
+fn closed(tables: &Bridge, group: &Group) -> bool {
     let peers = &tables.peers;
     unsafe {
-        celltimber_closed(tables.pes, peers.as_ptr(), peers.len(), group.as_ptr(), group.len()) == 1
+        celltimber_closed(tables.n, peers.as_ptr(), peers.len(), group.as_ptr(), group.len()) == 1
     }
 }
 
-fn covers(tables: &Tables, marks: &[u64], group: &Group) -> bool {
-    let (entries, memory) = (&tables.entries, &tables.memory);
+fn covers(tables: &Bridge, marks: &[u64], group: &Group) -> bool {
+    let (entries, memory) = (&tables.translation, &tables.memory);
     unsafe {
         celltimber_covers(
             entries.as_ptr(),
@@ -106,7 +113,7 @@ fn covers(tables: &Tables, marks: &[u64], group: &Group) -> bool {
     }
 }
 
-fn seen(tables: &Tables, marks: &[u64], group: &Group, table: Table, index: usize) -> bool {
+fn seen(tables: &Bridge, marks: &[u64], group: &Group, table: Table, index: usize) -> bool {
     let interrupts = &tables.interrupts;
     unsafe {
         celltimber_seen(
@@ -123,14 +130,14 @@ fn seen(tables: &Tables, marks: &[u64], group: &Group, table: Table, index: usiz
 }
 
 /// The number of the PE that a request belongs to; 65,536 is nobody.
-fn owner(tables: &Tables, request: &RequestWords) -> u64 {
+fn owner(tables: &Bridge, request: &RequestWords) -> u64 {
     let (requesters, interrupts) = (&tables.requesters, &tables.interrupts);
     let (windows, segments) = (&tables.windows, &tables.segments);
     unsafe {
         celltimber_owner(
-            tables.pes,
-            tables.interrupt_count,
-            tables.requester_count,
+            tables.n,
+            tables.m,
+            tables.r,
             requesters.as_ptr(),
             requesters.len(),
             interrupts.as_ptr(),
@@ -151,68 +158,6 @@ fn owner(tables: &Tables, request: &RequestWords) -> u64 {
 
 // ---- Files ----
 
-#[derive(Default)]
-struct Tables {
-    pes: u64,
-    interrupt_count: u64,
-    requester_count: u64,
-    requesters: Vec<u16>,
-    entries: Vec<u64>,
-    memory: Vec<u64>,
-    peers: Vec<u64>,
-    interrupts: Vec<u64>,
-    windows: Vec<u64>,
-    segments: Vec<u16>,
-    state: Vec<u64>,
-}
-
-impl Tables {
-    /// The tables after a size line, or none where a number is off its limits.
-    fn sized(n: u64, m: u64, r: u64, memory_words: u64) -> Option<Tables> {
-        if n < 1 || n > 16 || m > 64 || r < 1 || r > 64 || memory_words > 4_096 {
-            return None;
-        }
-        Some(Tables {
-            pes: n,
-            interrupt_count: m,
-            requester_count: r,
-            requesters: vec![0; r as usize],
-            entries: vec![0; 8 * n as usize],
-            memory: vec![0; memory_words as usize],
-            peers: vec![0; 4 * n as usize],
-            interrupts: vec![0; 4 * m as usize],
-            windows: vec![0; 67],
-            segments: vec![0; 256],
-            state: vec![0; 3 * n as usize],
-        })
-    }
-
-    /// Sets a word. False: the index is off its limits, or the value is too wide.
-    fn set(&mut self, table: Table, index: usize, value: u64) -> bool {
-        let short = u16::try_from(value).ok();
-        match table {
-            Table::Requesters => put(&mut self.requesters, index, short),
-            Table::Segments => put(&mut self.segments, index, short),
-            Table::Translation => put(&mut self.entries, index, Some(value)),
-            Table::Memory => put(&mut self.memory, index, Some(value)),
-            Table::Peers => put(&mut self.peers, index, Some(value)),
-            Table::Interrupts => put(&mut self.interrupts, index, Some(value)),
-            Table::Windows => put(&mut self.windows, index, Some(value)),
-            Table::State => put(&mut self.state, index, Some(value)),
-        }
-    }
-}
-
-fn put<T>(words: &mut [T], index: usize, value: Option<T>) -> bool {
-    match (words.get_mut(index), value) {
-        (Some(word), Some(value)) => {
-            *word = value;
-            true
-        }
-        _ => false,
-    }
-}
-
 struct SetLine {
     number: usize,
     text: String,
@@ -232,7 +177,7 @@ struct RequestLine {
 struct File {
     name: String,
     size: (usize, String),
-    tables: Tables,
+    tables: Bridge,
     sets: Vec<SetLine>,
     requests: Vec<RequestLine>,
 }
@@ -240,35 +185,25 @@ struct File {
 fn read(name: &str) -> Result<File, String> {
     let bytes = fs::read(name).unwrap_or_else(|error| stop(&format!("{}: {}", name, error)));
     let mut size = None;
-    let mut tables = Tables::default();
+    let mut tables = Bridge::default();
     let mut sets = Vec::new();
     let mut requests: Vec<RequestLine> = Vec::new();
     for (place, line) in bytes.split(|&byte| byte == b'\n').enumerate() {
         let number = place + 1;
         let text = String::from_utf8_lossy(line).replace('\t', " ");
-        match replay::parse(line) {
-            None => continue,
-            Some(Line::Size { n, m, r, memory_words }) => {
-                match Tables::sized(n, m, r, memory_words) {
-                    None => continue,
-                    Some(sized) => {
-                        tables = sized;
-                        sets.clear();
-                        size = Some((number, text));
-                    }
-                }
-            }
-            Some(Line::Set { table, index, value }) => {
-                let index = usize::try_from(index).unwrap_or(usize::MAX);
-                if size.is_none() || !tables.set(table, index, value) {
-                    continue;
-                }
-                sets.push(SetLine { number, text, table, index, value });
-            }
-            Some(Line::Ask(request)) => {
-                requests.push(RequestLine { number, text, words: words(request) });
-                continue;
-            }
+        let parsed = replay::parse(line);
+        if let Some(Line::Ask(request)) = parsed {
+            requests.push(RequestLine { number, text, words: request_words(request) });
+            continue;
+        }
+        if replay::take(&mut tables, line) == Outcome::Bad {
+            continue;
+        }
+        if let Some(Line::Set { table, index, value }) = parsed {
+            sets.push(SetLine { number, text, table, index: index as usize, value });
+        } else {
+            sets.clear();
+            size = Some((number, text));
         }
         if let Some(first) = requests.first() {
             return Err(format!(
@@ -283,29 +218,14 @@ fn read(name: &str) -> Result<File, String> {
     }
 }
 
-fn words(request: Request) -> RequestWords {
-    match request {
-        Request::Dma { requester, write, address, length, data } => {
-            dma(requester, if write { WRITE } else { READ }, address, length, u64::from(data))
-        }
-        Request::Load { address, width } => load(address, width),
-        Request::Store { address, width } => store(address, width),
-        Request::Error { requester } => error(requester),
-        Request::Clear { pe, part: Part::Mmio } => clear(pe, MMIO_BIT),
-        Request::Clear { pe, part: Part::Dma } => clear(pe, DMA_BIT),
-        Request::Clear { pe, part: Part::Record } => clear(pe, RECORD),
-        Request::End { interrupt } => end(interrupt),
-        Request::Priority { interrupt, priority: value } => priority(interrupt, value),
-    }
-}
-
 // ---- Premises ----
 
 /// PE numbers in hexadecimal, parted by commas.
 fn group(text: &str, pes: u64) -> Result<Group, String> {
     let mut group = NO_GROUP;
     for field in text.split(',') {
-        let pe = u64::from_str_radix(field, 16)
+        let digits = field.bytes().all(|b| b.is_ascii_hexdigit());
+        let pe = u64::from_str_radix(if digits { field } else { "" }, 16)
             .unwrap_or_else(|_| stop(&format!("GROUP: '{}' is no hexadecimal number", field)));
         if pe >= pes {
             return Err(format!("members are PEs: PE {:x} is not below N, which is {:x}", pe, pes));
@@ -316,8 +236,8 @@ fn group(text: &str, pes: u64) -> Result<Group, String> {
 }
 
 /// The first PE outside the group that lists a member, and the member.
-fn breach(tables: &Tables, group: &Group) -> String {
-    for pe in (0..tables.pes).filter(|&pe| !member(group, pe)) {
+fn breach(tables: &Bridge, group: &Group) -> String {
+    for pe in (0..tables.n).filter(|&pe| !member(group, pe)) {
         for k in (0..256).filter(|&k| member(group, k)) {
             if tables.peers[(4 * pe + k / 64) as usize] >> (k % 64) & 1 == 1 {
                 return format!("PE {:x} is outside and lists PE {:x}", pe, k);
@@ -329,13 +249,13 @@ fn breach(tables: &Tables, group: &Group) -> String {
 
 /// Marks on the memory words that walks of members can read: bit k of mark j is for word j with
 /// k levels below it. `covers` tells whether they miss a word.
-fn marks(tables: &Tables, group: &Group) -> Vec<u64> {
+fn marks(tables: &Bridge, group: &Group) -> Vec<u64> {
     let memory = &tables.memory;
     let mut marks = vec![0; memory.len()];
-    let entries = (0..tables.pes)
+    let entries = (0..tables.n)
         .filter(|&pe| member(group, pe))
         .flat_map(|pe| [8 * pe as usize, 8 * pe as usize + 4])
-        .map(|first| &tables.entries[first..first + 4])
+        .map(|first| &tables.translation[first..first + 4])
         .filter(|e| (1..=31).contains(&e[2]) && e[3] != 0 && (1..=5).contains(&e[1]))
         .collect::<Vec<_>>();
     loop {
@@ -428,23 +348,10 @@ fn same_own(files: &[File; 2], own: &[Vec<(usize, u64)>; 2]) -> Result<(), Strin
 fn answers(file: &mut File) -> Vec<AnswerWords> {
     let requests = file.requests.iter().flat_map(|line| line.words).collect::<Vec<_>>();
     let mut answers = vec![0; file.requests.len() * ANSWER_WORDS];
-    let t = &mut file.tables;
-    let count = run(
-        t.pes,
-        t.interrupt_count,
-        t.requester_count,
-        &t.requesters,
-        &t.entries,
-        &t.memory,
-        &t.peers,
-        &mut t.interrupts,
-        &t.windows,
-        &t.segments,
-        &mut t.state,
-        &requests,
-        &mut answers,
-    );
-    assert_eq!(count, file.requests.len());
+    let count = run_proved(&mut file.tables, &requests, &mut answers);
+    if count != file.requests.len() {
+        stop(&format!("{}: {} of {} requests served", file.name, count, file.requests.len()));
+    }
     answers.chunks_exact(ANSWER_WORDS).map(|x| x.try_into().unwrap()).collect()
 }
 
@@ -475,23 +382,24 @@ fn same_afterwards(files: &[File; 2], group: &Group) -> bool {
     state && interrupts
 }
 
-/// Rows of columns, each column as wide as its widest field.
-fn print(rows: &[Vec<String>]) {
+/// Rows as lines, each column as wide as its widest field.
+fn aligned(rows: &[Vec<String>]) -> String {
     let widths = (0..rows[0].len())
         .map(|k| rows.iter().map(|row| row[k].len()).max().unwrap())
         .collect::<Vec<_>>();
-    for row in rows {
+    let line = |row: &Vec<String>| {
         let fields = row.iter().zip(&widths).map(|(field, &width)| format!("{:width$}", field));
-        println!("{}", fields.collect::<Vec<_>>().join("  ").trim_end());
-    }
+        format!("{}\n", fields.collect::<Vec<_>>().join("  ").trim_end())
+    };
+    rows.iter().map(line).collect()
 }
 
-/// Says which premise fails, or compares. True: all is the same.
-fn compare(group_text: &str, names: [&str; 2]) -> Result<bool, String> {
+/// What is printed, and whether all is the same; or the premise that fails.
+fn compare(group_text: &str, names: [&str; 2]) -> Result<(String, bool), String> {
     let mut files = [read(names[0])?, read(names[1])?];
     let sizes = files.each_ref().map(|file| {
         let t = &file.tables;
-        (t.pes, t.interrupt_count, t.requester_count, t.memory.len())
+        (t.n, t.m, t.r, t.memory.len())
     });
     if sizes[0] != sizes[1] {
         let [x, y] = files.each_ref().map(|file| place(file, Some((file.size.0, &file.size.1))));
@@ -503,7 +411,7 @@ fn compare(group_text: &str, names: [&str; 2]) -> Result<bool, String> {
     same_sets("the same set lines for what is public", &files, public)?;
     let marks = marks(tables, &group);
     if !covers(tables, &marks, &group) {
-        return Err("the marks of the group's table words miss none".to_string());
+        stop("the marks of the group's table words miss one");
     }
     let groups =
         |line: &SetLine| !public(line) && seen(tables, &marks, &group, line.table, line.index);
@@ -515,7 +423,7 @@ fn compare(group_text: &str, names: [&str; 2]) -> Result<bool, String> {
     same_own(&files, &own)?;
 
     let answers = files.each_mut().map(answers);
-    println!("group {}; first {}; second {}", group_text, names[0], names[1]);
+    let mut text = format!("group {}; first {}; second {}\n", group_text, names[0], names[1]);
     let title =
         ["first", "second", "PE", "request", "answer in the first", "answer in the second", ""];
     let mut rows = vec![title.map(str::to_string).to_vec()];
@@ -533,19 +441,22 @@ fn compare(group_text: &str, names: [&str; 2]) -> Result<bool, String> {
             if x == y { "same" } else { "DIFFERENT" }.to_string(),
         ]);
     }
-    print(&rows);
+    text += &aligned(&rows);
     let afterwards = same_afterwards(&files, &group);
     let word = if afterwards { "same" } else { "DIFFERENT" };
-    println!("stop bits, error records and interrupt records of the group afterwards: {}", word);
-    println!(
-        "{} of {} and {} requests belong to the group: {} same, {} different",
+    text += &format!(
+        "stop bits, error records and interrupt records of the group afterwards: {}\n",
+        word
+    );
+    text += &format!(
+        "{} of {} and {} requests belong to the group: {} same, {} different\n",
         own[0].len(),
         files[0].requests.len(),
         files[1].requests.len(),
         own[0].len() - different,
         different
     );
-    Ok(different == 0 && afterwards)
+    Ok((text, different == 0 && afterwards))
 }
 
 fn stop(message: &str) -> ! {
@@ -558,12 +469,13 @@ fn main() {
     let [group, first, second] = &arguments[..] else {
         stop("usage: isolate GROUP FILE FILE");
     };
-    match compare(group, [first, second]) {
-        Ok(true) => {}
-        Ok(false) => exit(1),
-        Err(premise) => {
-            println!("premise fails: {}", premise);
-            exit(1)
-        }
+    let (text, same) = match compare(group, [first, second]) {
+        Ok(compared) => compared,
+        Err(premise) => (format!("premise fails: {}\n", premise), false),
+    };
+    let mut output = io::stdout();
+    if let Err(error) = output.write_all(text.as_bytes()).and_then(|()| output.flush()) {
+        stop(&format!("standard output: {}", error));
     }
+    exit(i32::from(!same))
 }

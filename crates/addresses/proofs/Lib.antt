@@ -1,1 +1,1 @@
-mod AddressNeeds
+mod AddressLaws

@@ -1,18 +1,19 @@
 // What an address of a DMA picks: its class, a record of its PE, and the offset.
-ghost use mathlib.Core.Path.{_≡_};
-ghost use Rattle.profile.specs.Entry.{classOf, half, offset, entryIn};
-ghost use Rattle.addresses.specs.Class.{lowClass};
 use kinds::number::ByteAddress;
 use kinds::number::PeNumber;
 use kinds::record::TranslationEntry;
 use kinds::request::AddressClass;
-use kinds::words::word;
+use profile::limits;
+use words::word;
+ghost use mathlib.Core.Path.{_≡_};
+ghost use Rattle.profile.specs.Entry.{classOf, half, offset, entryIn};
+ghost use Rattle.addresses.specs.Class.{lowClass};
 
 // The words of a PE's two records.
-const ENTRY_WORDS: usize = 8;
+const ENTRY_WORDS: usize = limits::ENTRY_WORDS as usize;
 
 // The words of one record.
-const RECORD_WORDS: usize = 4;
+const RECORD_WORDS: usize = limits::RECORD_WORDS as usize;
 
 // The class of an address, by its top four bits.
 pub fn class_of(address: ByteAddress) -> AddressClass

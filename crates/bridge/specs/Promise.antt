@@ -11,8 +11,8 @@ use Rattle.kinds.specs.declared.answer.Answer.{Answer}
 use Rattle.isolation.specs.Isolation.{Isolation}
 use Rattle.layout.specs.declared.Decoded.{Decoded}
 use Rattle.profile.specs.Tables.{Tables, Live}
-use Rattle.bridge.specs.Run.{answeredAs, afterAs, served, ranTo}
-use Rattle.bridge.specs.RunIsolation.{RunIsolation}
+use Rattle.runs.specs.Run.{answeredAs, afterAs, served, ranTo}
+use Rattle.runs.specs.RunIsolation.{RunIsolation}
 pub use Rattle.step.specs.Promise.{Handled}
 
 pub record Replied (f : Tables) (m : List ℕ) (s : Live) (d : Decoded) (a : Answer) (t : Live) : Type 0 where

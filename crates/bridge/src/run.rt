@@ -1,6 +1,5 @@
 // A list of requests as words, and their answers as words. Each request gets the tables as the last one left them.
 use crate::handle;
-use kinds::answer;
 use kinds::answer::Answer;
 use kinds::answer::Reason;
 use kinds::record::Lengths;
@@ -8,31 +7,15 @@ use kinds::record::Sizes;
 use layout;
 use layout::Decoded;
 use sizes;
+use word_lists;
 ghost use mathlib.Core.Path.{_≡_};
 ghost use Prim.Native.Nat.{_+_, _*_, _/_, _≤_, min};
 ghost use lib.ListN.{length};
-ghost use Rattle.kinds.specs.Answer.{numbered};
-ghost use Rattle.layout.specs.Layout.{decodedAt, requestWords, answerWords, stored};
+ghost use Rattle.layout.specs.Layout.{requestWords, answerWords};
 ghost use Rattle.bridge.specs.Promise.{Replied, RanAll};
-ghost use Rattle.bridge.specs.Run.{answeredAs, ran, ranOne};
+ghost use Rattle.runs.specs.Run.{answeredAs, runState, ranOne};
 ghost use Rattle.layout.specs.declared.Decoded.the-variants.{Unnamed};
-ghost use Rattle.decision.specs.Tables.{tables, live};
-
-// Request `k` of the list, by its words.
-fn request_at(requests: &[u64], k: usize) -> Decoded
-    requires { ⌜ k * requestWords + requestWords ≤ length (now requests) ⌝ }
-    ensures { λ r. ⌜ r ≡ decodedAt (now (requests .entry)) k ⌝ }
-{
-    let first = k * layout::REQUEST_WORDS;
-    layout::decode(
-        requests[first],
-        requests[first + 1],
-        requests[first + 2],
-        requests[first + 3],
-        requests[first + 4],
-        requests[first + 5],
-    )
-}
+ghost use Rattle.sizes.specs.Tables.{tables, live};
 
 // Words that name no request.
 fn unnamed(
@@ -116,22 +99,6 @@ fn reply(
     }
 }
 
-// The words of an answer, from place `at`.
-fn write_answer(answers: &mut [u64], at: usize, answer: Answer)
-    requires { ⌜ at + 8 ≤ length (now answers) ⌝ }
-    ensures { λ r. ⌜ now (answers .exit) ≡ stored (now (answers .entry)) at (numbered answer) ⌝ }
-{
-    let x = answer::in_numbers(answer);
-    answers[at] = x.name;
-    answers[at + 1] = x.reason;
-    answers[at + 2] = x.value;
-    answers[at + 3] = x.words;
-    answers[at + 4] = x.pe;
-    answers[at + 5] = x.server;
-    answers[at + 6] = x.priority;
-    answers[at + 7] = 0;
-}
-
 // Request `k`, served: its effect is done and its answer written.
 fn serve(
     sizes: Sizes,
@@ -148,10 +115,9 @@ fn serve(
     k: usize,
 )
     requires { ⌜ (k * requestWords + requestWords ≤ length (now requests)) × (k * answerWords + answerWords ≤ length (now answers)) ⌝ }
-    ensures { λ r. ⌜ ran (now (state .exit)) (now (interrupts .exit)) (now (answers .exit)) ≡ ranOne (tables sizes (now (requesters .entry)) (now (entries .entry)) (now (peers .entry)) (now (windows .entry)) (now (segments .entry))) (now (memory .entry)) (now (requests .entry)) (ran (now (state .entry)) (now (interrupts .entry)) (now (answers .entry))) k ⌝ }
+    ensures { λ r. ⌜ runState (now (state .exit)) (now (interrupts .exit)) (now (answers .exit)) ≡ ranOne (tables sizes (now (requesters .entry)) (now (entries .entry)) (now (peers .entry)) (now (windows .entry)) (now (segments .entry))) (now (memory .entry)) (now (requests .entry)) (runState (now (state .entry)) (now (interrupts .entry)) (now (answers .entry))) k ⌝ }
 {
-    let at = k * layout::ANSWER_WORDS;
-    let decoded = request_at(requests, k);
+    let decoded = word_lists::request_at(requests, k);
     let answer = reply(
         sizes,
         requesters,
@@ -164,7 +130,7 @@ fn serve(
         state,
         decoded,
     );
-    write_answer(answers, at, answer);
+    word_lists::write_answer(answers, k, answer);
 }
 
 // How many whole requests and answers two lists of words of these lengths both hold.

@@ -1,14 +1,12 @@
 // What a request comes to, on any tables: its answer and its effect. Nothing is written.
-use crate::access;
-use crate::firmware_requests;
-use crate::owner;
+use accesses;
 use dma;
+use firmware_requests;
 use forms;
 use kinds::answer::Answer;
 use kinds::answer::Reason;
 use kinds::lookup::Owner;
 use kinds::number::ByteAddress;
-use kinds::outcome;
 use kinds::outcome::Effect;
 use kinds::outcome::Outcome;
 use kinds::record::Lengths;
@@ -16,16 +14,17 @@ use kinds::record::Sizes;
 use kinds::request::Direction;
 use kinds::request::Request;
 use mmio;
+use outcomes;
+use owners;
 use sizes;
 use windows;
 ghost use mathlib.Core.Path.{_≡_};
 ghost use mathlib.Core.Bool.{true};
 ghost use mathlib.Core.List.{[]};
-ghost use Prim.Native.Nat.{_≤_};
 ghost use Rattle.kinds.specs.declared.request.Request.the-variants.{Dma, Error};
 ghost use Rattle.profile.specs.Step.{formed, decided};
-ghost use Rattle.decision.specs.Promise.{settledOn};
-ghost use Rattle.decision.specs.Tables.{tables, live};
+ghost use Rattle.firmware_requests.specs.Promise.{settledOn};
+ghost use Rattle.sizes.specs.Tables.{tables, live};
 
 // A DMA, by its requester.
 fn by_requester(
@@ -41,10 +40,9 @@ fn by_requester(
     length: u64,
     data: u32,
 ) -> Outcome
-    requires { ⌜ sizes .pes ≤ 256 ⌝ }
     ensures { λ r. ⌜ r ≡ settledOn (tables sizes (now (requesters .entry)) (now (entries .entry)) [] [] []) (now (memory .entry)) (live (now (state .entry)) (now (interrupts .entry))) (Dma requester direction address length «data») ⌝ }
 {
-    match owner::of_requester(sizes, requesters, requester) {
+    match owners::of_requester(sizes, requesters, requester) {
         Owner::Of(pe) => {
             return dma::dma_of(
                 sizes,
@@ -60,30 +58,29 @@ fn by_requester(
             );
         }
         Owner::Nobody(reason) => {
-            return outcome::refused(reason);
+            return outcomes::refused(reason);
         }
     }
 }
 
 // An error message, by its requester.
 fn error(sizes: Sizes, requesters: &[u16], requester: u64) -> Outcome
-    requires { ⌜ sizes .pes ≤ 256 ⌝ }
     ensures { λ r. ⌜ r ≡ settledOn (tables sizes (now (requesters .entry)) [] [] [] []) [] (live [] []) (Error requester) ⌝ }
 {
-    match owner::of_requester(sizes, requesters, requester) {
+    match owners::of_requester(sizes, requesters, requester) {
         Owner::Of(_) => {
-            return outcome::done(Effect::Freeze {
+            return outcomes::done(Effect::Freeze {
                 reason: Reason::ErrorMessage,
                 value: requester,
             });
         }
         Owner::Nobody(reason) => {
-            return outcome::refused(reason);
+            return outcomes::refused(reason);
         }
     }
 }
 
-// A request on tables whose sizes are good, and that is well formed.
+// A request that is well formed.
 fn settle(
     sizes: Sizes,
     requesters: &[u16],
@@ -96,7 +93,7 @@ fn settle(
     state: &[u64],
     request: Request,
 ) -> Outcome
-    requires { ⌜ (sizes .pes ≤ 256) × (formed request ≡ true) ⌝ }
+    requires { ⌜ formed request ≡ true ⌝ }
     ensures { λ r. ⌜ r ≡ settledOn (tables sizes (now (requesters .entry)) (now (entries .entry)) (now (peers .entry)) (now (windows .entry)) (now (segments .entry))) (now (memory .entry)) (live (now (state .entry)) (now (interrupts .entry))) request ⌝ }
 {
     match request {
@@ -124,11 +121,11 @@ fn settle(
         Request::Load { address, width } => {
             let hit = windows::route(windows, segments, address);
             let value = mmio::ones(width);
-            return access::access_of(sizes, state, hit, Answer::Ones { value });
+            return accesses::access_of(sizes, state, hit, Answer::Ones { value });
         }
         Request::Store { address, width: _ } => {
             let hit = windows::route(windows, segments, address);
-            return access::access_of(sizes, state, hit, Answer::Drop);
+            return accesses::access_of(sizes, state, hit, Answer::Drop);
         }
         Request::Error { requester } => {
             return error(sizes, requesters, requester);
@@ -188,7 +185,7 @@ pub fn decide(
                 request,
             );
         }
-        return outcome::refused(Reason::BadRequest);
+        return outcomes::refused(Reason::BadRequest);
     }
-    outcome::refused(Reason::TableLength)
+    outcomes::refused(Reason::TableLength)
 }

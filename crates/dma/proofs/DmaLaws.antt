@@ -21,7 +21,7 @@ use Rattle.profile.specs.Freeze.{stopWord, dmaStopped}
 use Rattle.profile.specs.Msi.{interruptIn, number32, number64, msiFormed, delivered, msi}
 use Rattle.profile.specs.Walk.{translated}
 use Rattle.dma.specs.ByValue.{classed, dmaOf}
-use Rattle.dma.specs.Tables.{tables, live}
+use Rattle.sizes.specs.Tables.{tables, live}
 
 -- ---- an MSI
 

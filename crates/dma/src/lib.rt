@@ -5,13 +5,13 @@ use interrupts;
 use kinds::answer::Reason;
 use kinds::number::ByteAddress;
 use kinds::number::PeNumber;
-use kinds::outcome;
 use kinds::outcome::Outcome;
 use kinds::record::Sizes;
 use kinds::request::AddressClass;
 use kinds::request::Direction;
 use msi;
-use translation::dma;
+use outcomes;
+use translation::translate;
 ghost use mathlib.Core.Path.{_≡_};
 ghost use mathlib.Core.List.{[]};
 ghost use Rattle.kinds.specs.Words.{at};
@@ -19,7 +19,7 @@ ghost use Rattle.profile.specs.Entry.{classOf};
 ghost use Rattle.profile.specs.Freeze.{stopWord};
 ghost use Rattle.profile.specs.Msi.{msi};
 ghost use Rattle.dma.specs.ByValue.{classed, dmaOf};
-ghost use Rattle.dma.specs.Tables.{tables, live};
+ghost use Rattle.sizes.specs.Tables.{tables, live};
 
 // An MSI of a PE, with its number; `good` says whether it is of good form.
 fn deliver_msi(
@@ -37,9 +37,9 @@ fn deliver_msi(
             let record = interrupts::interrupt_at(interrupts, number);
             return msi::deliver(pe, address, number, record);
         }
-        return outcome::failed(Reason::MsiRefused, address, 0);
+        return outcomes::failed(Reason::MsiRefused, address, 0);
     }
-    outcome::failed(Reason::MsiRefused, address, 0)
+    outcomes::failed(Reason::MsiRefused, address, 0)
 }
 
 // A DMA of a PE that is not stopped, by the class of its address.
@@ -59,7 +59,7 @@ fn dma_by_class(
     match addresses::class_of(address) {
         AddressClass::Dma => {
             let entry = addresses::entry_of(entries, pe, address);
-            return dma::translate(memory, entry, pe, direction, address);
+            return translate::translate(memory, entry, pe, direction, address);
         }
         AddressClass::Msi32 => {
             let number = msi::msi_number32(address, data);
@@ -72,7 +72,7 @@ fn dma_by_class(
             return deliver_msi(sizes, interrupts, pe, address, number, good);
         }
         AddressClass::Unserved => {
-            return outcome::failed(Reason::AddressClass, address, 0);
+            return outcomes::failed(Reason::AddressClass, address, 0);
         }
     }
 }
@@ -94,7 +94,7 @@ pub fn dma_of(
 {
     let stop = endpoints::stop_word(state, pe);
     if endpoints::dma_stopped(stop) {
-        return outcome::refused(Reason::DmaStopped);
+        return outcomes::refused(Reason::DmaStopped);
     }
     dma_by_class(
         sizes,

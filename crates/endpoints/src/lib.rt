@@ -1,14 +1,15 @@
 // The words of a PE in the state: its stop bits and its error record, and their release by firmware.
 use kinds::number::PeNumber;
 use kinds::request::Part;
-use kinds::words::put;
-use kinds::words::word;
+use profile::limits;
+use words::put;
+use words::word;
 ghost use mathlib.Core.Path.{_≡_};
 ghost use Rattle.kinds.specs.Words.{at};
 ghost use Rattle.profile.specs.Freeze.{dmaStopped, stopWord, released};
 
 // Stop bits, reason, value.
-pub const STATE_WORDS: usize = 3;
+pub const STATE_WORDS: usize = limits::STATE_WORDS as usize;
 
 pub fn dma_stopped(stop: u64) -> bool
     ensures { λ r. ⌜ r ≡ dmaStopped stop ⌝ }

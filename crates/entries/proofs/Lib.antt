@@ -1,2 +1,1 @@
-mod ShapeNeeds
-mod AskNeeds
+mod EntryLaws

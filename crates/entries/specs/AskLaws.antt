@@ -14,8 +14,9 @@ use Rattle.kinds.specs.declared.number.ByteAddress.{ByteAddress}
 use Rattle.kinds.specs.declared.number.PageSize.{PageSize}
 use Rattle.kinds.specs.declared.record.TranslationEntry.{TranslationEntry}
 use Rattle.profile.specs.Entry.{offset, indexBits, span, aligned, tableGood, bypass, bypassGood, inBypass, pagesGood}
-use Rattle.entries.specs.Ask.{known, asked, Shaped}
-use Rattle.entries.specs.declared.ask.Asked.the-variants.{Walk}
+use Rattle.page_tables.specs.Shape.{known}
+use Rattle.entries.specs.Ask.{asked, Shaped}
+use Rattle.entries.specs.declared.ask.Way.the-variants.{Walk}
 
 module _ (e : TranslationEntry) (good : pagesGood e ≡ true) where
   pub good-levels : e .levels ≤ 5

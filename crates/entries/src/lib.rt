@@ -1,3 +1,2 @@
 // Translation entries: what an entry says of an address before memory is read.
 pub mod ask;
-pub mod shape;

@@ -9,6 +9,7 @@ use native.Mathlib.Omega.{arith}
 use lib.ListN.{length, take, drop, getD, drop-of-length-le, length-take, length-drop}
 use lib.Seq.{drop-cons, take-all}
 use borrow.Author.Tests.{eq-eqb, ne-eqb}
+use Rattle.fields.specs.Bytes.{tab}
 use Rattle.fields.specs.Field.{is}
 use Rattle.fields.specs.FieldLaws.{is-other}
 use Rattle.fields.specs.Place.{cutOf, firstOf, fieldAfter}
@@ -33,11 +34,11 @@ module _ (l k : List ℕ) (i : ℕ) (same : is l k ≡ is (drop i l) (drop i k))
 
 -- the length of the first field, from place i on
 module _ (l : List ℕ) (i : ℕ) (same : cutOf l ≡ i + cutOf (drop i l)) where
-  pub cut-here : i < length l → getD l i 0 ≡ 9 → i ≡ cutOf l
+  pub cut-here : i < length l → getD l i 0 ≡ tab → i ≡ cutOf l
   unfolding cutOf
   cut-here h e = sym (same ∙ rw (drop-cons l i 0 h, eq-eqb _ _ e, add-zero))
 
-  pub cut-next : i < length l → (getD l i 0 ≡ 9 → ⊥) → cutOf l ≡ (i + 1) + cutOf (drop (i + 1) l)
+  pub cut-next : i < length l → (getD l i 0 ≡ tab → ⊥) → cutOf l ≡ (i + 1) + cutOf (drop (i + 1) l)
   unfolding cutOf
   cut-next h e = same ∙ rw (drop-cons l i 0 h, ne-eqb _ _ e, add-one, add-suc, suc-add)
 

@@ -1,5 +1,5 @@
 -- The fields of a line, and the numbers that they hold.
---     fieldsOf l          the fields of line l, parted at its tabs (9): one more than there are tabs
+--     fieldsOf l          the fields of line l, parted at its tabs: one more than there are tabs
 --     digitOf b           the value of byte b as a digit, `0` to `9` or `a` to `f`; 16 of any other byte
 --     numberOf f          the number in field f, of 1 to 16 digits, the first the highest; none of any other field; numberFrom v f: after digits that gave v
 --     only read fs        what the one field that is left holds; none where none or more are left
@@ -11,6 +11,7 @@ use mathlib.Core.Option.{Option, none, some}
 use Prim.Native.Nat.{ℕ, _+_, _-_, _*_}
 use lib.Dec.{ltb, leb, eqb}
 use lib.ListN.{length}
+use Rattle.fields.specs.Bytes.{tab}
 
 -- a byte at the front of the first field
 abbrev pub push : ℕ → List (List ℕ) → List (List ℕ)
@@ -19,7 +20,7 @@ push b (f ∷ fs) = (b ∷ f) ∷ fs
 
 unfoldable pub fieldsOf : List ℕ → List (List ℕ)
 fieldsOf [] = [] ∷ []
-fieldsOf (b ∷ l) = cond (eqb b 9) ([] ∷ fieldsOf l) (push b (fieldsOf l))
+fieldsOf (b ∷ l) = cond (eqb b tab) ([] ∷ fieldsOf l) (push b (fieldsOf l))
 
 abbrev pub digitOf : ℕ → ℕ
 digitOf b = cond (ltb b 48) 16 (cond (ltb b 58) (b - 48) (cond (ltb b 97) 16 (cond (ltb b 103) (b - 87) 16)))

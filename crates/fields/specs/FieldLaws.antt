@@ -13,6 +13,7 @@ use lib.Dec.{eqb}
 use lib.ListN.{length}
 use borrow.Author.Tests.{lt-leb, le-leb, eqb-true}
 use Rattle.kinds.specs.Tests.{by-cases, clash}
+use Rattle.fields.specs.Bytes.{tab}
 use Rattle.fields.specs.Field.{push, fieldsOf, numberOf, is}
 
 pub is-same : (f w : List ℕ) → is f w ≡ true → f ≡ w
@@ -47,12 +48,12 @@ length-push b (f ∷ fs) = refl
 some-field : (l : List ℕ) → 0 < length (fieldsOf l)
 unfolding fieldsOf
 some-field [] = omega arith
-some-field (b ∷ l) = by-cases (eqb b 9) (λ o. rw o (omega arith)) (λ o. rw (o, length-push b (fieldsOf l)) (some-field l))
+some-field (b ∷ l) = by-cases (eqb b tab) (λ o. rw o (omega arith)) (λ o. rw (o, length-push b (fieldsOf l)) (some-field l))
 
 pub total-fields : (l : List ℕ) → total (fieldsOf l) ≡ length l + 1
 unfolding fieldsOf
 total-fields [] = omega arith
 total-fields (b ∷ l) =
-    by-cases (eqb b 9)
+    by-cases (eqb b tab)
     (λ o. rw o (omega (arith, total-fields l)))
     (λ o. rw o (omega (arith, total-push b (fieldsOf l) (some-field l), total-fields l)))

@@ -9,11 +9,12 @@ use mathlib.Core.List.{List, [], _∷_}
 use Prim.Native.Nat.{ℕ, suc, _+_}
 use lib.Dec.{eqb}
 use lib.ListN.{length, take, drop}
+use Rattle.fields.specs.Bytes.{tab}
 use Rattle.fields.specs.Field.{fieldsOf}
 
 unfoldable pub cutOf : List ℕ → ℕ
 cutOf [] = 0
-cutOf (b ∷ l) = cond (eqb b 9) 0 (suc (cutOf l))
+cutOf (b ∷ l) = cond (eqb b tab) 0 (suc (cutOf l))
 
 unfoldable pub firstOf : List ℕ → List ℕ
 firstOf l = take (cutOf l) l

@@ -15,13 +15,14 @@ use lib.ListN.{length, take, drop, drop-of-length-le}
 use lib.Seq.{drop-cons, drop-drop, length-take-le}
 use borrow.Author.Tests.{ltb-true, ltb-false}
 use Rattle.kinds.specs.Tests.{by-cases}
+use Rattle.fields.specs.Bytes.{tab}
 use Rattle.fields.specs.Field.{push, fieldsOf, only}
 use Rattle.fields.specs.Place.{cutOf, firstOf, fieldAfter, endAfter, rest, fieldsAfter}
 
 cut-most : (l : List ℕ) → cutOf l ≤ length l
 unfolding cutOf
 cut-most [] = omega arith
-cut-most (b ∷ l) = by-cases (eqb b 9) (λ o. rw o (omega arith)) (λ o. rw o (omega (arith, cut-most l)))
+cut-most (b ∷ l) = by-cases (eqb b tab) (λ o. rw o (omega arith)) (λ o. rw o (omega (arith, cut-most l)))
 
 first-length : (l : List ℕ) → length (firstOf l) ≡ cutOf l
 unfolding firstOf
@@ -30,7 +31,7 @@ first-length l = length-take-le (cutOf l) l (cut-most l)
 fields-cut : (l : List ℕ) → fieldsOf l ≡ take (cutOf l) l ∷ rest (drop (cutOf l) l)
 unfolding fieldsOf cutOf
 fields-cut [] = refl
-fields-cut (b ∷ l) = by-cases (eqb b 9) (λ o. rw o) (λ o. rw o (ap (push b) (fields-cut l)))
+fields-cut (b ∷ l) = by-cases (eqb b tab) (λ o. rw o) (λ o. rw o (ap (push b) (fields-cut l)))
 
 pub fields-first : (l : List ℕ) → fieldsOf l ≡ firstOf l ∷ fieldsAfter l (length (firstOf l))
 unfolding firstOf fieldsAfter

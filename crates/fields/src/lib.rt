@@ -6,7 +6,10 @@ ghost use lib.ListN.{length};
 ghost use Rattle.fields.specs.Field.{is};
 ghost use Rattle.fields.specs.Place.{cutOf, firstOf, fieldAfter};
 
-const TAB: u8 = 9;
+// The byte that parts fields, and the byte that ends a line.
+pub const TAB: u8 = 9;
+
+pub const LINE_FEED: u8 = 10;
 
 pub fn same(a: &[u8], b: &[u8]) -> bool
     ensures { λ r. ⌜ r ≡ is (now (a .entry)) (now (b .entry)) ⌝ }

@@ -1,98 +1,13 @@
--- What the functions of `footprint` are proved from, a law to a `return` or a turn. Assumes nothing.
+-- What the functions of `footprint` are proved from, a law to a `return`. Assumes nothing.
 use mathlib.Core.Path.{_≡_}
 use mathlib.Core.Bool.{Bool, true, false}
 use mathlib.Core.List.{List}
-use Prim.Native.Nat.{ℕ, _+_, _-_, _*_, _/_, _%_, _^_, _<_, _≤_}
-use mir.Syntax.{w64}
-use mir.Val.{Fits}
-use native.Mathlib.Omega.{arith}
-use lib.Dec.{eqb}
-use lib.ListN.{length}
-use borrow.Author.Tests.{lt-ltb, le-ltb, eq-eqb, ne-eqb}
-use Rattle.kinds.specs.Words.{at, bitOf}
+use Prim.Native.Nat.{ℕ}
 use Rattle.kinds.specs.declared.record.TranslationEntry.{TranslationEntry}
+use Rattle.marks.specs.Marks.{entryMisses}
+use Rattle.members.specs.Member.{memberOf}
 use Rattle.profile.specs.Entry.{entryIn}
-use Rattle.profile.specs.Tables.{mostPes}
-use Rattle.footprint.specs.Member.{memberOf}
-use Rattle.footprint.specs.Marks.{anyMark, marked, inTable, misses, tableMisses, wordMisses, levelsMiss, paged, entryMisses, peMisses}
-use Rattle.footprint.specs.MarksLaws.{paged-ranges}
-
--- ---- members
-
-pub bit-is : (v : List ℕ) (k : ℕ) {x : ℕ} → x ≡ at v (k / 64) → eqb (x / 2 ^ (k % 64) % 2) 1 ≡ bitOf v k
-bit-is v k e = rw e
-
-module _ (g : List ℕ) (n : ℕ) where
-  pub member-below : {b : Bool} → n < mostPes → b ≡ bitOf g n → b ≡ memberOf g n
-  unfolding memberOf
-  member-below h e = rw (lt-ltb _ _ h) e
-
-  pub member-above : mostPes ≤ n → false ≡ memberOf g n
-  unfolding memberOf
-  member-above h = rw (le-ltb _ _ h)
-
--- ---- marks
-
-pub mark-is : (t : List ℕ) (k j : ℕ) {x : ℕ} → x ≡ at t j → eqb (x / 2 ^ k % 2) 1 ≡ marked t k j
-unfolding marked
-mark-is t k j e = rw e
-
-module _ (t : List ℕ) (n k f j : ℕ) {a : Bool} (asked : a ≡ inTable n f j) where
-  pub misses-marked : {b : Bool} → a ≡ true → b ≡ marked t k j → b ≡ true → false ≡ misses t n k f j
-  unfolding misses
-  misses-marked o e p = rw (← asked, o, ← e, p)
-
-  pub misses-unmarked : {b : Bool} → a ≡ true → b ≡ marked t k j → b ≡ false → true ≡ misses t n k f j
-  unfolding misses
-  misses-unmarked o e p = rw (← asked, o, ← e, p)
-
-  pub misses-outside : a ≡ false → false ≡ misses t n k f j
-  unfolding misses
-  misses-outside o = rw (← asked, o)
-
-module _ (m t : List ℕ) (n k j : ℕ) {a : Bool} (asked : a ≡ marked t (k + 1) j) where
-  pub word-ends : {w : ℕ} → a ≡ true → w ≡ at m j → w % 4 ≡ 0 → false ≡ wordMisses m t n k j
-  unfolding wordMisses
-  word-ends o e h = rw (← asked, o, ← e, eq-eqb _ 0 h)
-
-  pub word-leads : {w : ℕ} {b : Bool} → a ≡ true → w ≡ at m j → (w % 4 ≡ 0 → ⊥) → b ≡ tableMisses t (length m) n k (w / 4096 * 512) → b ≡ wordMisses m t n k j
-  unfolding wordMisses
-  word-leads o e h i = rw (← asked, o, ← e, ne-eqb _ 0 h) i
-
-  pub word-unmarked : a ≡ false → false ≡ wordMisses m t n k j
-  unfolding wordMisses
-  word-unmarked o = rw (← asked, o)
-
-module _ (m t : List ℕ) (e : TranslationEntry) {a : Bool} (asked : a ≡ paged e) where
-  pub entry-root : {b : Bool} → a ≡ true → b ≡ tableMisses t (length m) (e .table + 8) (e .levels - 1) (e .base / 8) → b ≡ true → true ≡ entryMisses m t e
-  unfolding entryMisses
-  entry-root o h p = rw (← asked, o, ← h, p)
-
-  pub entry-levels : {b c : Bool} → a ≡ true → b ≡ tableMisses t (length m) (e .table + 8) (e .levels - 1) (e .base / 8) → b ≡ false
-      → c ≡ levelsMiss m t (e .table + 8) (e .levels - 1) → c ≡ entryMisses m t e
-  unfolding entryMisses
-  entry-levels o h p i = rw (← asked, o, ← h, p) i
-
-  pub entry-none : a ≡ false → false ≡ entryMisses m t e
-  unfolding entryMisses
-  entry-none o = rw (← asked, o)
-
--- what `paged` says of the numbers of an entry
-module _ (e : TranslationEntry) {a : Bool} (asked : a ≡ paged e) (o : a ≡ true) where
-  pub paged-bits : e .table + 8 < 64
-  paged-bits = let h = paged-ranges e (rw (← asked) o) in omega (arith, h .0)
-
-  pub paged-some : 1 ≤ e .levels
-  paged-some = paged-ranges e (rw (← asked) o) .1 .0
-
-  pub paged-few : e .levels - 1 ≤ 5
-  paged-few = let h = paged-ranges e (rw (← asked) o) in omega (arith, h .1 .1)
-
-  pub paged-fits : Fits w64 (e .table + 8)
-  paged-fits = omega (arith, paged-bits)
-
-  pub paged-under : e .levels - 1 < 64
-  paged-under = omega (arith, paged-few)
+use Rattle.footprint.specs.Footprint.{peMisses}
 
 module _ (g l m t : List ℕ) (p : ℕ) {a : Bool} (asked : a ≡ memberOf g p) where
   pub pe-first : {e : TranslationEntry} {b : Bool} → a ≡ true → e ≡ entryIn l (record { 0 = p }) 0 → b ≡ entryMisses m t e → b ≡ true → true ≡ peMisses g l m t p
@@ -107,12 +22,3 @@ module _ (g l m t : List ℕ) (p : ℕ) {a : Bool} (asked : a ≡ memberOf g p) 
   pub pe-other : a ≡ false → false ≡ peMisses g l m t p
   unfolding peMisses
   pe-other o = rw (← asked, o)
-
-module _ (t : List ℕ) (i : ℕ) {w : ℕ} (read : w ≡ at t i) where
-  pub mark-none : w ≡ 0 → false ≡ anyMark t i
-  unfolding anyMark
-  mark-none h = rw (← read, h)
-
-  pub mark-some : (w ≡ 0 → ⊥) → true ≡ anyMark t i
-  unfolding anyMark
-  mark-some h = rw (← read, ne-eqb _ 0 h)

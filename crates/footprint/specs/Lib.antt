@@ -1,6 +1,2 @@
-pub mod Any
-pub mod AnyLaws
-pub mod Marks
-pub mod MarksLaws
-pub mod Member
-pub mod MemberLaws
+pub mod Footprint
+pub mod FootprintLaws

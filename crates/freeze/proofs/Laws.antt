@@ -2,12 +2,12 @@
 use mathlib.Core.Path.{_≡_, ap, _∙_}
 use mathlib.Core.Bool.{Bool, true, false}
 use mathlib.Core.List.{List}
-use Prim.Native.Nat.{ℕ, _+_, _*_, _/_, _%_, _^_, _≤_}
-use lib.Dec.{eqb}
+use Prim.Native.Nat.{ℕ, _+_, _*_, _/_, _≤_}
 use lib.ListN.{length, set}
 use borrow.Author.Tests.{eq-eqb, ne-eqb}
 use Rattle.kinds.specs.Answer.{reasonNumber}
-use Rattle.kinds.specs.Turns.{turns, turns-next}
+use Rattle.kinds.specs.Turns.{turns}
+use Rattle.kinds.specs.TurnsLaws.{turns-next}
 use Rattle.kinds.specs.Words.{at, bitOf}
 use Rattle.kinds.specs.declared.answer.Reason.{Reason}
 use Rattle.kinds.specs.declared.answer.Reason.the-variants.{FrozenAsPeer}
@@ -16,9 +16,6 @@ use Rattle.profile.specs.Freeze.{froze}
 use Rattle.profile.specs.Tables.{stateWords}
 use Rattle.freeze.specs.Turn.{stopped, turned, freezeTurn}
 use Rattle.freeze.specs.TurnLaws.{length-turned, turns-is}
-
-pub listed : (w : List ℕ) (k : ℕ) {x : ℕ} → x ≡ at w (k / 64) → eqb (x / 2 ^ (k % 64) % 2) 1 ≡ bitOf w k
-listed w k e = rw e
 
 -- b and o are the stop word and the reason that were read
 module _ (l : List ℕ) (k r v : ℕ) {b o : ℕ} {m : List ℕ} (stop : b ≡ at l (k * stateWords)) (reason : o ≡ at l (k * stateWords + 1)) (bits : m ≡ set l (k * stateWords) (b / 4 * 4 + 3)) where

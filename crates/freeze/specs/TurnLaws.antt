@@ -14,7 +14,8 @@ use lib.ListN.{length, length-set}
 use borrow.Author.Tests.{eqb-true, eqb-false}
 use Rattle.kinds.specs.Answer.{reasonNumber}
 use Rattle.kinds.specs.Tests.{by-cases, and-left}
-use Rattle.kinds.specs.Turns.{turns, at-place, at-first, turns-mapAt}
+use Rattle.kinds.specs.Turns.{turns}
+use Rattle.kinds.specs.TurnsLaws.{at-place, at-first, turns-mapAt}
 use Rattle.kinds.specs.Words.{at, bitOf}
 use Rattle.kinds.specs.declared.answer.Reason.the-variants.{FrozenAsPeer}
 use Rattle.kinds.specs.declared.number.PeNumber.{PeNumber}

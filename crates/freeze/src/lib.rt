@@ -1,33 +1,18 @@
 // The freeze of a PE with its peers: stop bits and error records.
+use answers::reason_number;
 use endpoints::STATE_WORDS;
 use kinds::answer::Reason;
-use kinds::answer::reason_number;
 use kinds::number::PeNumber;
-use kinds::words::put;
-use kinds::words::word;
+use peers::is_listed;
+use words::put;
+use words::word;
 ghost use mathlib.Core.Path.{_≡_};
 ghost use Prim.Native.Nat.{_*_, _<_};
 ghost use lib.ListN.{length};
 ghost use Rattle.kinds.specs.Answer.{reasonNumber};
-ghost use Rattle.kinds.specs.Words.{bitOf};
-ghost use Rattle.profile.specs.Freeze.{vectorIn, froze};
+ghost use Rattle.profile.specs.Freeze.{froze};
 ghost use Rattle.profile.specs.Tables.{stateWords};
 ghost use Rattle.freeze.specs.Turn.{stopped, turned};
-
-// The words of a peer vector.
-const PEER_WORDS: usize = 4;
-
-pub fn peer_vector(peers: &[u64], pe: PeNumber) -> [u64; 4]
-    ensures { λ r. ⌜ r ≡ vectorIn (now (peers .entry)) pe ⌝ }
-{
-    let first = pe.0 as usize * PEER_WORDS;
-    [
-        word(peers, first),
-        word(peers, first + 1),
-        word(peers, first + 2),
-        word(peers, first + 3),
-    ]
-}
 
 // PE `pe` and every PE in its peer vector are stopped, as one step.
 pub fn freeze(state: &mut [u64], peers: [u64; 4], pe: PeNumber, reason: Reason, value: u64)
@@ -36,17 +21,10 @@ pub fn freeze(state: &mut [u64], peers: [u64; 4], pe: PeNumber, reason: Reason, 
     let number = reason_number(reason);
     let mut k: usize = 0;
     while k * STATE_WORDS < state.len() {
-        let peer = is_peer(&peers, k);
+        let peer = is_listed(&peers, k);
         turn(state, k, peer, pe, number, value);
         k += 1;
     }
-}
-
-fn is_peer(peers: &[u64], k: usize) -> bool
-    ensures { λ r. ⌜ r ≡ bitOf (now (peers .entry)) k ⌝ }
-{
-    let bits = word(peers, k / 64);
-    (bits >> (k % 64)) % 2 == 1
 }
 
 // The turn of PE k in a freeze of PE `pe`; `peer` says whether k is in the vector.

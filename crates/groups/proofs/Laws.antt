@@ -12,12 +12,12 @@ use Rattle.kinds.specs.declared.number.PeNumber.{PeNumber}
 use Rattle.kinds.specs.declared.request.Request.{Request}
 use Rattle.profile.specs.Freeze.{vectorIn}
 use Rattle.profile.specs.Tables.{Tables, Live, mostPes, interruptWords}
-use Rattle.decision.specs.Promise.{knownOwner}
+use Rattle.owners.specs.Known.{knownOwner}
 use Rattle.layout.specs.declared.Decoded.{Decoded}
 use Rattle.layout.specs.declared.Decoded.the-variants.{Named, Unnamed}
-use Rattle.footprint.specs.Member.{memberOf}
+use Rattle.members.specs.Member.{memberOf}
 use Rattle.groups.specs.Group.{flag, ownerNumber, knownOwnerAs, memberListed, listsMember, outsiderLists, anyOutsiderLists, closed}
-use Rattle.footprint.specs.Marks.{anyMisses}
+use Rattle.footprint.specs.Footprint.{anyMisses}
 use Rattle.groups.specs.Seen.{interruptSeen}
 
 pub flag-set : {b : Bool} → b ≡ true → 1 ≡ flag b

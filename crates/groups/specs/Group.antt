@@ -16,11 +16,11 @@ use Rattle.kinds.specs.declared.lookup.Owner.{Owner}
 use Rattle.kinds.specs.declared.lookup.Owner.the-variants.{Of, Nobody}
 use Rattle.profile.specs.Freeze.{vectorIn}
 use Rattle.profile.specs.Tables.{Tables, Live, mostPes}
-use Rattle.decision.specs.Promise.{knownOwner}
+use Rattle.owners.specs.Known.{knownOwner}
 use Rattle.layout.specs.declared.Decoded.{Decoded}
 use Rattle.layout.specs.declared.Decoded.the-variants.{Named, Unnamed}
-use Rattle.footprint.specs.Any.{any}
-use Rattle.footprint.specs.Member.{memberOf}
+use Rattle.members.specs.Any.{any}
+use Rattle.members.specs.Member.{memberOf}
 
 unfoldable pub flag : Bool → ℕ
 flag true = 1

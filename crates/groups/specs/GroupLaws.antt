@@ -4,7 +4,7 @@
 --     owned-member        a request belongs to the group where the number of its owner is a member's
 --     closed-is           THE STATEMENT: the test of closedness gives the premise; is-closed: and the premise gives the test
 -- Assumes nothing.
-use mathlib.Core.Path.{_≡_, refl}
+use mathlib.Core.Path.{_≡_, refl, _∙_}
 use mathlib.Core.Bool.{Bool, true, false}
 use mathlib.Core.List.{List, []}
 use Prim.Native.Nat.{ℕ, _≤_}
@@ -19,16 +19,17 @@ use Rattle.kinds.specs.declared.number.PeNumber.{PeNumber}
 use Rattle.kinds.specs.declared.record.Sizes.{Sizes}
 use Rattle.profile.specs.Agree.{owned, Closed}
 use Rattle.profile.specs.Freeze.{vectorIn}
+use Rattle.profile.specs.Owner.{owner}
 use Rattle.profile.specs.Tables.{Tables, mostPes}
-use Rattle.decision.specs.PromiseLaws.{owner-reads}
-use Rattle.decision.specs.Tables.{tables, live}
-use Rattle.bridge.specs.Run.{ownerAs}
+use Rattle.owners.specs.KnownLaws.{known-within, owner-reads}
+use Rattle.sizes.specs.Tables.{tables, live}
+use Rattle.runs.specs.Run.{ownerAs}
 use Rattle.layout.specs.declared.Decoded.{Decoded}
 use Rattle.layout.specs.declared.Decoded.the-variants.{Named, Unnamed}
-use Rattle.footprint.specs.Any.{any}
-use Rattle.footprint.specs.AnyLaws.{any-none, none-any}
-use Rattle.footprint.specs.Member.{memberOf, group}
-use Rattle.footprint.specs.MemberLaws.{member-below, not-true}
+use Rattle.members.specs.Any.{any}
+use Rattle.members.specs.AnyLaws.{any-none, none-any}
+use Rattle.members.specs.Member.{memberOf, group}
+use Rattle.members.specs.MemberLaws.{member-below, not-true}
 use Rattle.groups.specs.Group.{flag, ownerNumber, knownOwnerAs, memberListed, outsiderLists, closed}
 
 pub flag-one : (b : Bool) → flag b ≡ 1 → b ≡ true
@@ -39,7 +40,7 @@ flag-one false e = absurd (omega (arith, e))
 pub owner-known : (z : Sizes) (q e v w l t i : List ℕ) (d : Decoded) → z .pes ≤ mostPes
     → knownOwnerAs (tables z q [] [] w l) (live [] i) d ≡ ownerAs (tables z q e v w l) (live t i) d
 unfolding knownOwnerAs ownerAs
-owner-known z q e v w l t i (Named y) h = rw (le-leb _ _ h) (owner-reads z q e v w l t i y)
+owner-known z q e v w l t i (Named y) h = known-within z (owner (tables z q [] [] w l) (live [] i) y) h ∙ owner-reads z q e v w l t i y
 owner-known z q e v w l t i Unnamed h = refl
 
 pub owned-member : (g : List ℕ) (o : Owner) → owned (group g) o ≡ memberOf g (ownerNumber o)

@@ -2,4 +2,4 @@ pub mod Group
 pub mod GroupLaws
 pub mod Seen
 pub mod SeenLaws
-pub mod Shown
+pub mod SeenAlike

@@ -8,8 +8,8 @@ use Prim.Native.Nat.{ℕ, _*_, _/_, _%_}
 use lib.Dec.{eqb}
 use Rattle.kinds.specs.Words.{at}
 use Rattle.profile.specs.Tables.{entryWords, interruptWords, stateWords}
-use Rattle.footprint.specs.Marks.{anyMark}
-use Rattle.footprint.specs.Member.{memberOf}
+use Rattle.marks.specs.Marks.{anyMark}
+use Rattle.members.specs.Member.{memberOf}
 
 unfoldable pub interruptSeen : (g interrupts : List ℕ) → ℕ → Bool
 interruptSeen g l i = cond (eqb (i % interruptWords) 0) true (memberOf g (at l (i / interruptWords * interruptWords)))

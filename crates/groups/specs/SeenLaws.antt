@@ -1,5 +1,5 @@
 -- Two bridges that agree in the words that are public or the group's meet the premises of demand 3, and a run of each answers the group alike.
---     viewed              with marks that miss nothing, `Shown` gives `View`: what demand 3 asks of two bridges
+--     viewed              with marks that miss nothing, `SeenAlike` gives `View`: what demand 3 asks of two bridges
 --     isolated-run        THE STATEMENT: what `closed`, `anyMisses` and `seen` test, and own requests that are equal, give equal answers
 -- Assumes nothing.
 use mathlib.Core.Path.{_≡_, refl, ap}
@@ -19,17 +19,17 @@ use Rattle.profile.specs.Entry.{entry}
 use Rattle.profile.specs.Msi.{interrupt}
 use Rattle.profile.specs.Tables.{entryWords, recordWords, interruptWords, stateWords}
 use Rattle.isolation.specs.View.{Bridge, lengthsOf, Public, Written, View}
-use Rattle.bridge.specs.Run.{served, ranTo}
-use Rattle.bridge.specs.RunIsolation.{ownRequests, ownAnswers, run-isolation}
-use Rattle.footprint.specs.Member.{memberOf, group}
+use Rattle.runs.specs.Run.{served, ranTo}
+use Rattle.runs.specs.RunIsolation.{ownRequests, ownAnswers, run-isolation}
+use Rattle.members.specs.Member.{memberOf, group}
 use Rattle.groups.specs.Group.{closed}
 use Rattle.groups.specs.GroupLaws.{closed-is}
-use Rattle.footprint.specs.Marks.{anyMisses}
-use Rattle.footprint.specs.MarksLaws.{reads-marked}
-use Rattle.groups.specs.Shown.{Shown}
+use Rattle.footprint.specs.Footprint.{anyMisses}
+use Rattle.footprint.specs.FootprintLaws.{reads-marked}
+use Rattle.groups.specs.SeenAlike.{SeenAlike}
 use Rattle.groups.specs.Seen.{interruptSeen, seen}
 
-module _ (g t : List ℕ) (a b : Bridge) (s : Shown g t a b) where
+module _ (g t : List ℕ) (a b : Bridge) (s : SeenAlike g t a b) where
   same-length : (P : Lengths → ℕ) → P (lengthsOf a) ≡ P (lengthsOf b)
   same-length P = ap P (s .all-lengths)
 
@@ -94,7 +94,7 @@ module _ (g t : List ℕ) (a b : Bridge) (s : Shown g t a b) where
 
 pub isolated-run : (g t : List ℕ) (a b : Bridge)
     -- what `celltimber_closed`, `celltimber_covers` and `celltimber_seen` tell
-    → closed (a .tables .sizes .pes) g (a .tables .peers) ≡ true → anyMisses g (a .tables .entries) (a .memory) t ≡ false → Shown g t a b
+    → closed (a .tables .sizes .pes) g (a .tables .peers) ≡ true → anyMisses g (a .tables .entries) (a .memory) t ≡ false → SeenAlike g t a b
     -- request words w on the first bridge and v on the second, with answer words l and k
     → (w v l k : List ℕ) → ownRequests (group g) a w (served w l) ≡ ownRequests (group g) b v (served v k)
     → ownAnswers (group g) a w (ranTo (a .tables) (a .memory) w (a .live) l (served w l) .answers) (served w l)

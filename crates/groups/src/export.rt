@@ -1,21 +1,22 @@
 // The functions that Rust and C call: numbers and slices only. A slice passes as its first element's address and its length.
 use crate::closed;
 use crate::seen;
-use decision::owner;
-use footprint::marks;
-use footprint::member;
+use footprint;
 use kinds::lookup::Owner;
 use kinds::record::Sizes;
 use layout;
 use layout::Decoded;
+use members;
+use owners;
+use profile::limits::MOST_PES;
 ghost use mathlib.Core.Path.{_≡_};
 ghost use mathlib.Core.Bool.{not};
 ghost use mathlib.Core.List.{[]};
-ghost use Rattle.decision.specs.Tables.{tables, live};
+ghost use Rattle.sizes.specs.Tables.{tables, live};
 ghost use Rattle.layout.specs.Layout.{decoded};
 ghost use Rattle.groups.specs.Group.{flag, ownerNumber, knownOwnerAs, closed};
-ghost use Rattle.footprint.specs.Member.{memberOf};
-ghost use Rattle.footprint.specs.Marks.{anyMisses};
+ghost use Rattle.members.specs.Member.{memberOf};
+ghost use Rattle.footprint.specs.Footprint.{anyMisses};
 ghost use Rattle.groups.specs.Seen.{seen};
 
 // What a request belongs to where no PE has it: no PE has this number.
@@ -55,7 +56,7 @@ fn owner_as(
 {
     match decoded {
         Decoded::Named(request) => {
-            return owner_number(owner::owner_of(
+            return owner_number(owners::owner_of(
                 sizes,
                 requesters,
                 interrupts,
@@ -109,7 +110,7 @@ pub extern "C" fn celltimber_owner(
 pub extern "C" fn celltimber_member(group: &[u64], number: u64) -> u64
     ensures { λ r. ⌜ r ≡ flag (memberOf (now (group .entry)) number) ⌝ }
 {
-    flag(member::is_member(group, number))
+    flag(members::is_member(group, number))
 }
 
 // 1 if no PE below N outside the group lists a member in its peer vector, else 0. 0 also where N is above its limit.
@@ -117,7 +118,7 @@ pub extern "C" fn celltimber_member(group: &[u64], number: u64) -> u64
 pub extern "C" fn celltimber_closed(pes: u64, peers: &[u64], group: &[u64]) -> u64
     ensures { λ r. ⌜ r ≡ flag (closed pes (now (group .entry)) (now (peers .entry))) ⌝ }
 {
-    if pes <= member::MOST_PES {
+    if pes <= MOST_PES {
         if closed::any_outsider_lists(group, peers, pes as usize) {
             return 0;
         }
@@ -136,7 +137,7 @@ pub extern "C" fn celltimber_covers(
 ) -> u64
     ensures { λ r. ⌜ r ≡ flag (not (anyMisses (now (group .entry)) (now (entries .entry)) (now (memory .entry)) (now (marks .entry)))) ⌝ }
 {
-    if marks::any_misses(group, entries, memory, marks) {
+    if footprint::any_misses(group, entries, memory, marks) {
         return 0;
     }
     1

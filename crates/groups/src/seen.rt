@@ -1,7 +1,10 @@
 // Which table words are public or the group's. Tables are numbered from 0 in the order of document 01.
-use footprint::marks;
-use footprint::member;
-use kinds::words;
+use marks;
+use members;
+use profile::limits;
+use profile::limits::ENTRY_WORDS;
+use profile::limits::STATE_WORDS;
+use words;
 ghost use mathlib.Core.Path.{_≡_};
 ghost use Rattle.groups.specs.Seen.{interruptSeen, seen};
 
@@ -13,12 +16,7 @@ const INTERRUPTS: u64 = 4;
 
 const STATE: u64 = 7;
 
-// The words of a PE's translation entries, of an interrupt and of a PE's state.
-const ENTRY_WORDS: u64 = 8;
-
-const INTERRUPT_WORDS: usize = 4;
-
-const STATE_WORDS: u64 = 3;
+const INTERRUPT_WORDS: usize = limits::INTERRUPT_WORDS as usize;
 
 // The PE word of an interrupt is public, the other words are its PE's.
 fn interrupt_seen(group: &[u64], interrupts: &[u64], index: usize) -> bool
@@ -28,7 +26,7 @@ fn interrupt_seen(group: &[u64], interrupts: &[u64], index: usize) -> bool
         return true;
     }
     let pe = words::word(interrupts, index / INTERRUPT_WORDS * INTERRUPT_WORDS);
-    member::is_member(group, pe)
+    members::is_member(group, pe)
 }
 
 pub(crate) fn is_seen(
@@ -41,7 +39,7 @@ pub(crate) fn is_seen(
     ensures { λ r. ⌜ r ≡ seen (now (group .entry)) (now (interrupts .entry)) (now (marks .entry)) table index ⌝ }
 {
     if table == ENTRIES {
-        return member::is_member(group, index as u64 / ENTRY_WORDS);
+        return members::is_member(group, index as u64 / ENTRY_WORDS);
     }
     if table == MEMORY {
         return marks::has_mark(marks, index);
@@ -50,7 +48,7 @@ pub(crate) fn is_seen(
         return interrupt_seen(group, interrupts, index);
     }
     if table == STATE {
-        return member::is_member(group, index as u64 / STATE_WORDS);
+        return members::is_member(group, index as u64 / STATE_WORDS);
     }
     true
 }

@@ -1,16 +1,18 @@
 // The interrupts: the lent table of their words, and the ranges that the words have to be in.
 use kinds::number::PeNumber;
 use kinds::record::Interrupt;
-use kinds::words;
+use profile::limits;
+use profile::limits::HOLDING;
+use words;
 ghost use mathlib.Core.Path.{_≡_};
 ghost use Rattle.profile.specs.Msi.{interruptIn, stored, ranged};
 
 // The words of an interrupt.
-const WORDS: usize = 4;
+const INTERRUPT_WORDS: usize = limits::INTERRUPT_WORDS as usize;
+
 // A server is below this.
 const SERVERS: u64 = 0x100_0000;
-// The priority that holds every MSI. No priority is above it.
-pub const HOLDING: u64 = 255;
+
 // The bits of a state, 2P + Q.
 pub const P: u64 = 2;
 
@@ -22,7 +24,7 @@ pub fn interrupt_at(interrupts: &[u64], number: u64) -> Interrupt
 {
     let index = number as usize;
     if index < interrupts.len() {
-        let first = index * WORDS;
+        let first = index * INTERRUPT_WORDS;
         return Interrupt {
             pe: words::word(interrupts, first),
             server: words::word(interrupts, first + 1),
@@ -57,7 +59,7 @@ pub fn store(interrupts: &mut [u64], pe: PeNumber, number: u64, priority: u64, b
 {
     let index = number as usize;
     if index < interrupts.len() {
-        let first = index * WORDS;
+        let first = index * INTERRUPT_WORDS;
         if words::word(interrupts, first) == pe.0 as u64 {
             words::put(interrupts, first + 2, priority);
             words::put(interrupts, first + 3, bits);

@@ -23,8 +23,10 @@ use Rattle.profile.specs.Step.{act, actBy, decidedBy, decided, answered, after}
 use Rattle.profile.specs.Owner.{owner}
 use Rattle.profile.specs.Agree.{belongs, Closed}
 use Rattle.profile.specs.AgreeLaws.{alike-refl, same-refl, held-refl}
-use Rattle.isolation.specs.Unwind.{mine, replies, chosen-twice, seen-chosen}
-use Rattle.isolation.specs.View.{Bridge, lengthsOf, Public, Written, View, agreed, viewed}
+use Rattle.isolation.specs.Machine.{mine, replies}
+use Rattle.isolation.specs.Unwind.{chosen-twice, seen-chosen}
+use Rattle.isolation.specs.View.{Bridge, lengthsOf, Public, Written, View}
+use Rattle.isolation.specs.ViewLaws.{agreed, viewed}
 use Rattle.isolation.specs.Isolation.{machine, own, answers, left, belongs-keeps, met-own, run-agrees, isolation}
 
 view-refl : (G : PeNumber → Bool) (a : Bridge) → View G a a

@@ -24,8 +24,10 @@ use Rattle.profile.specs.Agree.{owned, belongs, Closed, Same, Alike, Held}
 use Rattle.profile.specs.AgreeLaws.{same-sym, same-trans}
 use Rattle.profile.specs.OwnerLaws.{owner-keeps}
 use Rattle.profile.specs.RequestLaws.{vector-agrees, answered-agrees, after-agrees, after-unseen}
-use Rattle.isolation.specs.Unwind.{Machine, Laws, mine, seen, end, chosen, mine-chosen, unwound-same}
-use Rattle.isolation.specs.View.{Bridge, Written, View, Agreed, agreed, written}
+use Rattle.isolation.specs.Machine.{Machine, Laws, mine, seen, end, chosen}
+use Rattle.isolation.specs.Unwind.{mine-chosen, unwound-same}
+use Rattle.isolation.specs.View.{Bridge, Written, View, Agreed}
+use Rattle.isolation.specs.ViewLaws.{agreed, written}
 
 abbrev pub machine : (PeNumber → Bool) → Tables → List ℕ → Machine Live Request Answer
 machine G f m = record { next = after f m; answer = answered f m; own = belongs G f }

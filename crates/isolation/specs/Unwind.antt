@@ -1,73 +1,23 @@
 -- The unwinding theorem: from laws of one request to two machines and two lists of requests. No bridge is named here.
---     Machine             what a request leaves, what it is answered, and whether it is owned, asked of the state that it meets
---     end next s l        the state after a list
---     mine m s l          the owned requests of a list, in order; seen m s l: their answers; met m s l: each as a `Met`, with the state that it meets
---     replies m s l       the answers to all requests of a list
---     Align               two lists side by side: a request that is not owned stands alone, owned ones stand in pairs that match. `Match` looks at
---                         the two states and the two requests, and may be weaker than equality
---     Laws                what one request has to keep: on the left alone, on the right alone, on both
 --     aligned             from `Laws` to two lists that stand side by side
---     Pairs, paired       lists whose owned requests match in order (OfMet) do stand side by side
+--     paired              lists whose owned requests match in order do stand side by side
 --     same-pairs          equal owned requests match; same-and, pairs-both: with what the states share besides
 --     unwound             THE THEOREM, for any `Match`; unwound-same: where owned requests match by being equal
---     Runs, run-same      a machine that answers as another one does, seen through a function, as long as an invariant holds: every list is answered
---                         the same and leaves the same
+--     run-same            a machine that runs as another one does: every list is answered the same and leaves the same
 --     lifted              laws of two machines are laws of two that run as they do
---     chosen own l        the requests of a list that a test picks
 --     mine-chosen         where no request changes who owns what, the owned requests are those that the start owns; seen-chosen: in a list of
 --                         owned requests alone, every answer is seen
 -- Assumes nothing.
 use mathlib.Core.Path.{_≡_, refl, sym, _∙_, fun-ext}
-use mathlib.Core.Bool.{Bool, true, false, cond}
+use mathlib.Core.Bool.{Bool, true}
 use mathlib.Core.List.{List, [], _∷_}
 use Prim.Native.Nat.{ℕ}
 use native.Mathlib.Omega.{arith}
 use Rattle.kinds.specs.Tests.{by-cases}
-
-pub record Machine (S Q A : Type 0) : Type 0 where
-  pub next : S → Q → S
-  pub answer : S → Q → A
-  pub own : S → Q → Bool
-
-abbrev pub end : {S Q : Type 0} → (S → Q → S) → S → List Q → S
-end next s [] = s
-end next s (q ∷ l) = end next (next s q) l
-
--- an owned request, and the state that it meets
-pub record Met (S Q : Type 0) : Type 0 where
-  pub state : S
-  pub request : Q
+use Rattle.isolation.specs.Machine.{Machine, Met, Align, Laws, Runs, Pairs, OfMet, end, mine, seen, met, replies, requests, chosen}
+use Rattle.isolation.specs.Machine.Align.{done, left, right, both}
 
 module _ {S Q A : Type 0} where
-  abbrev pub mine : Machine S Q A → S → List Q → List Q
-  mine m s [] = []
-  mine m s (q ∷ l) = cond (m .own s q) (q ∷ mine m (m .next s q) l) (mine m (m .next s q) l)
-
-  abbrev pub seen : Machine S Q A → S → List Q → List A
-  seen m s [] = []
-  seen m s (q ∷ l) = cond (m .own s q) (m .answer s q ∷ seen m (m .next s q) l) (seen m (m .next s q) l)
-
-  abbrev pub met : Machine S Q A → S → List Q → List (Met S Q)
-  met m s [] = []
-  met m s (q ∷ l) = cond (m .own s q) (record { state = s; request = q } ∷ met m (m .next s q) l) (met m (m .next s q) l)
-
-  abbrev pub replies : Machine S Q A → S → List Q → List A
-  replies m s [] = []
-  replies m s (q ∷ l) = m .answer s q ∷ replies m (m .next s q) l
-
-  pub data Align (m n : Machine S Q A) (Match : S → S → Q → Q → Type 0) : S → S → List Q → List Q → Type 0 where
-    done : {s t : S} → Align m n Match s t [] []
-    left : {s t : S} {q : Q} {l k : List Q} → m .own s q ≡ false → Align m n Match (m .next s q) t l k → Align m n Match s t (q ∷ l) k
-    right : {s t : S} {p : Q} {l k : List Q} → n .own t p ≡ false → Align m n Match s (n .next t p) l k → Align m n Match s t l (p ∷ k)
-    both : {s t : S} {q p : Q} {l k : List Q} → m .own s q ≡ true → n .own t p ≡ true → Match s t q p
-        → Align m n Match (m .next s q) (n .next t p) l k → Align m n Match s t (q ∷ l) (p ∷ k)
-
-  pub record Laws (m n : Machine S Q A) (Match : S → S → Q → Q → Type 0) (R : S → S → Type 0) : Type 0 where
-    pub skip-left : {s t : S} → R s t → (q : Q) → m .own s q ≡ false → R (m .next s q) t
-    pub skip-right : {s t : S} → R s t → (q : Q) → n .own t q ≡ false → R s (n .next t q)
-    pub step : {s t : S} → R s t → (q p : Q) → Match s t q p → m .own s q ≡ true → n .own t p ≡ true
-        → (m .answer s q ≡ n .answer t p) × R (m .next s q) (n .next t p)
-
   pub aligned : {m n : Machine S Q A} {Match : S → S → Q → Q → Type 0} {R : S → S → Type 0} → Laws m n Match R
       → {s t : S} {l k : List Q} → Align m n Match s t l k → R s t
       → (seen m s l ≡ seen n t k) × R (end (m .next) s l) (end (n .next) t k)
@@ -80,15 +30,6 @@ module _ {S Q A : Type 0} where
       rw (o, o′) (cc, rest .1)
 
 -- ---- lists whose owned requests match in order stand side by side
-
-abbrev pub Pairs : {X : Type 0} → (X → X → Type 0) → List X → List X → Type 0
-Pairs M [] [] = Unit {0}
-Pairs M [] (p ∷ k) = ⊥
-Pairs M (q ∷ l) [] = ⊥
-Pairs M (q ∷ l) (p ∷ k) = M q p × Pairs M l k
-
-abbrev pub OfMet : {S Q : Type 0} → (S → S → Q → Q → Type 0) → Met S Q → Met S Q → Type 0
-OfMet Match x y = Match (x .state) (y .state) (x .request) (y .request)
 
 module _ {S Q A : Type 0} {m n : Machine S Q A} {Match : S → S → Q → Q → Type 0} where
   -- nothing owned is left on the left: all on the right stands alone
@@ -121,10 +62,6 @@ unwound w s t r l k e = aligned w (paired s t l k e) r
 -- ---- requests that match by being equal, in whatever states
 
 module _ {S Q : Type 0} where
-  abbrev pub requests : List (Met S Q) → List Q
-  requests [] = []
-  requests (x ∷ l) = x .request ∷ requests l
-
   equal-pairs : (l k : List (Met S Q)) → requests l ≡ requests k → Pairs (OfMet (λ (s t : S). _≡_)) l k
   equal-pairs [] [] e = tt
   equal-pairs [] (y ∷ k) e = absurd (let z : _≡_ {A = ℕ} 0 1 = cc in omega arith)
@@ -158,12 +95,6 @@ module _ {S Q A : Type 0} where
 
 -- ---- a machine that runs as another one does, seen through h, as long as I holds
 
-pub record Runs {X S Q A : Type 0} (c : Machine X Q A) (m : Machine S Q A) (h : X → S) (I : X → Type 0) : Type 0 where
-  pub answers : (x : X) → I x → (q : Q) → c .answer x q ≡ m .answer (h x) q
-  pub owns : (x : X) → (q : Q) → c .own x q ≡ m .own (h x) q
-  pub moves : (x : X) → I x → (q : Q) → h (c .next x q) ≡ m .next (h x) q
-  pub stays : (x : X) → I x → (q : Q) → I (c .next x q)
-
 pub run-same : {X S Q A : Type 0} {c : Machine X Q A} {m : Machine S Q A} {h : X → S} {I : X → Type 0} → Runs c m h I
     → (x : X) → I x → (l : List Q) → (replies c x l ≡ replies m (h x) l) × (h (end (c .next) x l) ≡ end (m .next) (h x) l)
 run-same w x i [] = (refl, refl)
@@ -188,10 +119,6 @@ module _ {X S Q A : Type 0} {c d : Machine X Q A} {m n : Machine S Q A} {h : X �
   }
 
 -- ---- where no request changes who owns what
-
-abbrev pub chosen : {Q : Type 0} → (Q → Bool) → List Q → List Q
-chosen own [] = []
-chosen own (q ∷ l) = cond (own q) (q ∷ chosen own l) (chosen own l)
 
 pub chosen-twice : {Q : Type 0} (own : Q → Bool) (l : List Q) → chosen own (chosen own l) ≡ chosen own l
 chosen-twice own [] = refl

@@ -1,33 +1,24 @@
--- What a group of PEs sees of a bridge, in the words of demand 3, and that this is what the laws of one request are written in.
+-- What a group of PEs sees of a bridge, in the words of demand 3.
 --     Bridge              the fixed tables, memory, and what is written
+--     lengthsOf a         the lengths of its tables
 --     Public a b          equal in all that 01 calls public
 --     Written G n s t     the group's stop bits, error records and interrupt records are equal, n being M
 --     View G a b          all that demand 3 asks of two bridges, G being the group
---     Agreed G a b        the relations of the laws of one request, together
---     agreed, viewed      from `View` to `Agreed`, and back: they say the same
---     written             what `Same` gives of the words that are written
+--     Agreed G a b        the relations that the laws of one request are written in, together
 -- Assumes nothing.
-use mathlib.Core.Path.{_≡_, ap}
+use mathlib.Core.Path.{_≡_}
 use mathlib.Core.Bool.{Bool, true}
 use mathlib.Core.List.{List}
-use Prim.Native.Nat.{ℕ, zero, suc, _+_, _*_, _/_, _%_, _<_}
-use native.Mathlib.Nat.{add-zero}
-use native.Mathlib.Omega.{arith}
-use lib.Dec.{eqb}
+use Prim.Native.Nat.{ℕ, _%_, _<_}
 use lib.ListN.{length}
-use borrow.Author.Tests.{eqb-true, eqb-false, ne-eqb}
-use Rattle.kinds.specs.Tests.{by-cases}
 use Rattle.kinds.specs.Words.{at}
 use Rattle.kinds.specs.declared.number.PeNumber.{PeNumber}
-use Rattle.kinds.specs.declared.record.Interrupt.{Interrupt}
 use Rattle.kinds.specs.declared.record.Lengths.{Lengths}
-use Rattle.kinds.specs.declared.record.TranslationEntry.{TranslationEntry}
-use Rattle.profile.specs.Tables.{Tables, Live, lengths, entryWords, recordWords, interruptWords, stateWords}
+use Rattle.profile.specs.Tables.{Tables, Live, lengths}
 use Rattle.profile.specs.Freeze.{stopWord, reasonWord, valueWord}
 use Rattle.profile.specs.Entry.{entry}
 use Rattle.profile.specs.Msi.{interrupt}
-use Rattle.profile.specs.Agree.{peOf, seenWord, interruptPe, Same, Alike, Reads, Held}
-use Rattle.profile.specs.AgreeLaws.{stop-agrees, interrupt-agrees, entry-agrees}
+use Rattle.profile.specs.Agree.{interruptPe, Same, Alike, Reads, Held}
 
 pub record Bridge : Type 0 where
   pub tables : Tables
@@ -69,111 +60,7 @@ pub record View (G : PeNumber → Bool) (a b : Bridge) : Type 0 where
   -- every table word that its walks can read, in the first bridge
   pub table-words : (k : ℕ) → Reads G (a .tables) (a .memory) k → at (a .memory) k ≡ at (b .memory) k
 
--- ---- the words of the state, by PE and by place
-
-module _ {G : PeNumber → Bool} {n : ℕ} {s t : Live} where
-  state-word : Written G n s t → (i : ℕ) → G (peOf i) ≡ true → seenWord i (at (s .state) i) ≡ seenWord i (at (t .state) i)
-  state-word w i g =
-      by-cases (eqb (i % stateWords) 0)
-      (λ o. let z = eqb-true (i % stateWords) 0 o in let e : stopWord (peOf i) ≡ i = omega arith in rw o (rw e at (w .stop-bits (peOf i) g)))
-      (λ o. rw o (by-cases (eqb (i % stateWords) 1)
-      (λ p. let z = eqb-true (i % stateWords) 1 p in let e : reasonWord (peOf i) ≡ i = omega arith in rw e at (w .reason (peOf i) g))
-      (λ p. let y = eqb-false (i % stateWords) 0 o in let z = eqb-false (i % stateWords) 1 p in
-      let e : valueWord (peOf i) ≡ i = omega arith in rw e at (w .value (peOf i) g))))
-
-  -- a word of PE p that is no stop word
-  record-word : Same G n s t → (p : PeNumber) → G p ≡ true → (j : ℕ) → 0 < j → j < stateWords
-      → at (s .state) (p .0 * stateWords + j) ≡ at (t .state) (p .0 * stateWords + j)
-  record-word r p g j lo hi =
-      let e : (p .0 * stateWords + j) / stateWords ≡ p .0 = omega arith in
-      rw (ne-eqb ((p .0 * stateWords + j) % stateWords) 0 (omega arith)) at (r .state-word (p .0 * stateWords + j) (rw e g))
-
-  pub written : Same G n s t → Written G n s t
-  written r = record {
-    stop-bits = stop-agrees r;
-    reason = λ p g. record-word r p g 1 (omega arith) (omega arith);
-    value = λ p g. record-word r p g 2 (omega arith) (omega arith);
-    interrupts = interrupt-agrees r;
-  }
-
--- ---- a record, field by field and word by word
-
-interrupt-word : (s t : Live) (i : ℕ) → interrupt s i ≡ interrupt t i → (j : ℕ) → j < interruptWords
-    → at (s .interrupts) (i * interruptWords + j) ≡ at (t .interrupts) (i * interruptWords + j)
-interrupt-word s t i e zero h = rw add-zero (ap (λ (x : Interrupt). x .pe) e)
-interrupt-word s t i e (suc zero) h = ap (λ (x : Interrupt). x .server) e
-interrupt-word s t i e (suc (suc zero)) h = ap (λ (x : Interrupt). x .priority) e
-interrupt-word s t i e (suc (suc (suc zero))) h = ap (λ (x : Interrupt). x .bits) e
-interrupt-word s t i e (suc (suc (suc (suc j)))) h = absurd (omega arith)
-
-entry-word : (f g : Tables) (p : PeNumber) (h : ℕ) → entry f p h ≡ entry g p h → (j : ℕ) → j < recordWords
-    → at (f .entries) (p .0 * entryWords + (h * recordWords + j)) ≡ at (g .entries) (p .0 * entryWords + (h * recordWords + j))
-entry-word f g p h e zero b = rw add-zero (ap (λ (x : TranslationEntry). x .base) e)
-entry-word f g p h e (suc zero) b = ap (λ (x : TranslationEntry). x .levels) e
-entry-word f g p h e (suc (suc zero)) b = ap (λ (x : TranslationEntry). x .table) e
-entry-word f g p h e (suc (suc (suc zero))) b = ap (λ (x : TranslationEntry). x .page) e
-entry-word f g p h e (suc (suc (suc (suc j)))) b = absurd (omega arith)
-
--- ---- there and back
-
 pub record Agreed (G : PeNumber → Bool) (a b : Bridge) : Type 0 where
   pub tables : Alike G (a .tables) (b .tables)
   pub live : Same G (a .tables .sizes .interrupts) (a .live) (b .live)
   pub memory : Held G (a .tables) (a .memory) (b .memory)
-
-module _ {G : PeNumber → Bool} {a b : Bridge} where
-  tables-agree : View G a b → Alike G (a .tables) (b .tables)
-  tables-agree v = record {
-    sizes = v .public .sizes;
-    requesters = v .public .requesters;
-    peers = v .public .peers;
-    windows = v .public .windows;
-    segments = v .public .segments;
-    entries-length = ap (λ (x : Lengths). x .entries) (v .public .all-lengths);
-    entry-word = λ p g j h.
-        let e : j / recordWords * recordWords + j % recordWords ≡ j = omega arith in
-        rw e at (entry-word (a .tables) (b .tables) p (j / recordWords) (v .entries p g (j / recordWords) (omega arith)) (j % recordWords) (omega arith));
-  }
-
-  live-agrees : View G a b → Same G (a .tables .sizes .interrupts) (a .live) (b .live)
-  live-agrees v = record {
-    state-length = ap (λ (x : Lengths). x .state) (v .public .all-lengths);
-    interrupts-length = ap (λ (x : Lengths). x .interrupts) (v .public .all-lengths);
-    state-word = state-word (v .written);
-    interrupt-pe = v .public .interrupt-pe;
-    interrupt-word = λ i h g j l. interrupt-word (a .live) (b .live) i (v .written .interrupts i h g) j l;
-  }
-
-  memory-agrees : View G a b → Held G (a .tables) (a .memory) (b .memory)
-  memory-agrees v = record { memory-length = ap (λ (x : Lengths). x .memory) (v .public .all-lengths); table-word = v .table-words }
-
-  pub agreed : View G a b → Agreed G a b
-  agreed v = record { tables = tables-agree v; live = live-agrees v; memory = memory-agrees v }
-
-  public-agrees : Agreed G a b → Public a b
-  public-agrees r = record {
-    sizes = r .tables .sizes;
-    all-lengths = rw (
-      r .tables .requesters,
-      r .tables .entries-length,
-      r .memory .memory-length,
-      r .tables .peers,
-      r .live .interrupts-length,
-      r .tables .windows,
-      r .tables .segments,
-      r .live .state-length,
-    );
-    requesters = r .tables .requesters;
-    peers = r .tables .peers;
-    windows = r .tables .windows;
-    segments = r .tables .segments;
-    interrupt-pe = r .live .interrupt-pe;
-  }
-
-  pub viewed : Agreed G a b → View G a b
-  viewed r = record {
-    public = public-agrees r;
-    written = written (r .live);
-    entries = entry-agrees (r .tables);
-    table-words = r .memory .table-word;
-  }

@@ -30,7 +30,7 @@ use Rattle.profile.specs.Walk.{place, leads, walkFrom, readsBy, reads}
 use Rattle.profile.specs.WalkLaws.{walk-cases}
 use Rattle.profile.specs.Msi.{interrupt}
 use Rattle.profile.specs.Agree.{interruptPe, Closed, Reads}
-use Rattle.isolation.specs.Unwind.{replies}
+use Rattle.isolation.specs.Machine.{replies}
 use Rattle.isolation.specs.Bridges.{group, tables, live, upper, lower, memory, bridge, list, other, opened-bridges}
 use Rattle.isolation.specs.Isolation.{machine, own, answers, left, isolation}
 use Rattle.isolation.specs.View.{Bridge, Public, Written, View}

@@ -5,5 +5,6 @@ pub mod Outcome
 pub mod Powers
 pub mod Tests
 pub mod Turns
+pub mod TurnsLaws
 pub mod Words
 pub mod WordsLaws

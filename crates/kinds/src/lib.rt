@@ -5,4 +5,3 @@ pub mod number;
 pub mod outcome;
 pub mod record;
 pub mod request;
-pub mod words;

@@ -3,17 +3,20 @@
 --     decoded k a b c d e         the request that the kind k and the numbers a to e name, if any:
 --                                 0 dma: requester, direction (0 read, 1 write), address, length, data (below 2 ^ 32); 1 load, 2 store: address, width;
 --                                 3 error: requester; 4 clear: PE, part (0 mmio, 1 dma, 2 record); 5 end: interrupt; 6 priority: interrupt, priority
---     decodedAt l k               request k of the list of words l
+--     decodedFrom l i             the request whose words stand from place i of the list of words l
+--     decodedAt l k               request k of the list of words l; requestIn l k: none where its words are not all there
 --     numberList x                the 8 words of an answer: name, reason, value, words read, PE, server, priority, as `numbered` has them, and 0
 --     wordsAt x k                 the words of answer k in the answer words x
---     written l k a               the list of words l with answer a written as its answer k; stored l i x: the numbers x from place i
+--     written l k a               the list of words l with answer a written as its answer k; writtenIn l k a: nothing is
+--                                 written where the words of answer k are not all there
 --     decodedDma, decodedClear    the cases of kinds 0 and 4
 -- Assumes nothing.
 use mathlib.Core.Bool.{cond}
 use mathlib.Core.List.{List, [], _∷_}
-use Prim.Native.Nat.{ℕ, _+_, _*_, _^_}
+use Prim.Native.Nat.{ℕ, _+_, _*_, _/_, _^_}
 use lib.Dec.{ltb, eqb}
-use lib.ListN.{set}
+use lib.ListN.{length}
+use lib.Seq.{sets}
 use Rattle.kinds.specs.Answer.{numbered}
 use Rattle.kinds.specs.Words.{at}
 use Rattle.kinds.specs.declared.answer.Answer.{Answer}
@@ -51,21 +54,23 @@ decoded k a b c d e =
     (cond (eqb k 5) (Named (End a))
     (cond (eqb k 6) (Named (Priority a b)) Unnamed))))))
 
+abbrev pub decodedFrom : List ℕ → ℕ → Decoded
+decodedFrom l i = decoded (at l i) (at l (i + 1)) (at l (i + 2)) (at l (i + 3)) (at l (i + 4)) (at l (i + 5))
+
 abbrev pub decodedAt : List ℕ → ℕ → Decoded
-decodedAt l k =
-    decoded (at l (k * requestWords)) (at l (k * requestWords + 1)) (at l (k * requestWords + 2)) (at l (k * requestWords + 3))
-    (at l (k * requestWords + 4)) (at l (k * requestWords + 5))
+decodedAt l k = decodedFrom l (k * requestWords)
+
+unfoldable pub requestIn : List ℕ → ℕ → Decoded
+requestIn l k = cond (ltb k (length l / requestWords)) (decodedAt l k) Unnamed
 
 abbrev pub numberList : Numbers → List ℕ
 numberList x = x .name ∷ x .reason ∷ x .value ∷ x .words ∷ x .pe ∷ x .server ∷ x .priority ∷ 0 ∷ []
 
--- the words of an answer written from place i
-abbrev pub stored : List ℕ → ℕ → Numbers → List ℕ
-stored l i x =
-    set (set (set (set (set (set (set (set l i (x .name)) (i + 1) (x .reason)) (i + 2) (x .value)) (i + 3) (x .words)) (i + 4) (x .pe)) (i + 5) (x .server)) (i + 6) (x .priority)) (i + 7) 0
-
 unfoldable pub written : List ℕ → ℕ → Answer → List ℕ
-written l k a = stored l (k * answerWords) (numbered a)
+written l k a = sets l (k * answerWords) (numberList (numbered a))
+
+unfoldable pub writtenIn : List ℕ → ℕ → Answer → List ℕ
+writtenIn l k a = cond (ltb k (length l / answerWords)) (written l k a) l
 
 abbrev pub wordsAt : List ℕ → ℕ → List ℕ
 wordsAt x k =

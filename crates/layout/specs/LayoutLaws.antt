@@ -1,4 +1,5 @@
 -- The layout of answers loses nothing, and an answer is written where it belongs.
+--     request-in, written-in      a request and an answer whose words are all there
 --     reasonFrom n                the reason with number n; answerFrom x: the answer with numbers x
 --     numbered-injective          two answers with the same words are the same
 --     words-written, words-kept   the words of an answer once it is written, and once a later one is
@@ -8,12 +9,12 @@ use mathlib.Core.Path.{_≡_, refl, sym, ap, _∙_}
 use mathlib.Core.Bool.{false}
 use mathlib.Core.List.{List, [], _∷_}
 use Prim.Native.Nat.{ℕ, zero, suc, _+_, _-_, _*_, _/_, _<_, _≤_}
-use native.Mathlib.Nat.{add-assoc, add-zero, not-suc-le-zero, le-of-suc-le-suc}
+use native.Mathlib.Nat.{add-zero, not-suc-le-zero, le-of-suc-le-suc}
 use native.Mathlib.Omega.{arith}
 use lib.Dec.{eqb}
 use lib.ListN.{length, set, length-set}
-use lib.Seq.{getD-set-same, getD-set-other}
-use borrow.Author.Tests.{eqb-false, ne-eqb}
+use lib.Seq.{sets, length-sets, getD-set-same, getD-set-other}
+use borrow.Author.Tests.{lt-ltb, eqb-false, ne-eqb}
 use Rattle.kinds.specs.Answer.{reasonNumber, numbered}
 use Rattle.kinds.specs.Words.{at}
 use Rattle.kinds.specs.declared.answer.Answer.{Answer}
@@ -21,7 +22,15 @@ use Rattle.kinds.specs.declared.answer.Answer.the-variants.{Pass, Msi, Held, On
 use Rattle.kinds.specs.declared.answer.Numbers.{Numbers}
 use Rattle.kinds.specs.declared.answer.Reason.{Reason}
 use Rattle.kinds.specs.declared.answer.Reason.the-variants.{TableLength, BadRequest, UnknownRequester, DmaStopped, AddressClass, BadEntry, OutsideWindow, TableWord, MsiRefused, NoWindow, MmioStopped, ErrorMessage, FrozenAsPeer, BadFirmware, OutsideMemory}
-use Rattle.layout.specs.Layout.{numberList, wordsAt, stored, written, answerWords}
+use Rattle.layout.specs.Layout.{decodedAt, requestIn, numberList, wordsAt, written, writtenIn, requestWords, answerWords}
+
+pub request-in : (l : List ℕ) (k : ℕ) → k * requestWords + requestWords ≤ length l → requestIn l k ≡ decodedAt l k
+unfolding requestIn
+request-in l k h = rw (lt-ltb k (length l / requestWords) (omega arith))
+
+pub written-in : (l : List ℕ) (k : ℕ) (a : Answer) → k * answerWords + answerWords ≤ length l → writtenIn l k a ≡ written l k a
+unfolding writtenIn
+written-in l k a h = rw (lt-ltb k (length l / answerWords) (omega arith))
 
 reasons : List Reason
 reasons =
@@ -69,46 +78,37 @@ answer-back Done = refl
 pub numbered-injective : (a b : Answer) → numberList (numbered a) ≡ numberList (numbered b) → a ≡ b
 numbered-injective a b e = sym (answer-back a) ∙ ap answerFrom e ∙ answer-back b
 
--- the words w written from place i, one after the other
-storedFrom : List ℕ → ℕ → List ℕ → List ℕ
-storedFrom l i [] = l
-storedFrom l i (x ∷ w) = storedFrom (set l i x) (i + 1) w
-
-stored-from : (l : List ℕ) (i : ℕ) (x : Numbers) → stored l i x ≡ storedFrom l i (numberList x)
-unfolding storedFrom
-stored-from l i x = simp add-assoc
+-- ---- words written one after the other
 
 -- a word outside the place written stays
-stored-out : (l : List ℕ) (i : ℕ) (w : List ℕ) (j : ℕ) → (i ≤ j → i + length w ≤ j) → at (storedFrom l i w) j ≡ at l j
-unfolding storedFrom
-stored-out l i [] j h = refl
-stored-out l i (x ∷ w) j h =
-    stored-out (set l i x) (i + 1) w j (λ g. let z = h (omega arith) in omega arith)
+sets-out : (l : List ℕ) (i : ℕ) (w : List ℕ) (j : ℕ) → (i ≤ j → i + length w ≤ j) → at (sets l i w) j ≡ at l j
+sets-out l i [] j h = refl
+sets-out l i (x ∷ w) j h =
+    sets-out (set l i x) (suc i) w j (λ g. let z = h (omega arith) in omega arith)
     ∙ getD-set-other l i j x 0 (λ e. let z = h (omega arith) in omega arith)
 
-stored-in : (l : List ℕ) (i : ℕ) (w : List ℕ) (d : ℕ) → d < length w → i + length w ≤ length l → at (storedFrom l i w) (i + d) ≡ at w d
-unfolding storedFrom
-stored-in l i [] d h g = absurd (not-suc-le-zero h)
-stored-in l i (x ∷ w) zero h g =
-    rw add-zero (stored-out (set l i x) (i + 1) w i (λ q. omega arith) ∙ getD-set-same l i x 0 (omega arith))
-stored-in l i (x ∷ w) (suc d) h g =
-    let e : i + suc d ≡ i + 1 + d = omega arith in
-    rw e (stored-in (set l i x) (i + 1) w d (le-of-suc-le-suc h) (rw length-set (omega arith)))
+sets-in : (l : List ℕ) (i : ℕ) (w : List ℕ) (d : ℕ) → d < length w → i + length w ≤ length l → at (sets l i w) (i + d) ≡ at w d
+sets-in l i [] d h g = absurd (not-suc-le-zero h)
+sets-in l i (x ∷ w) zero h g =
+    rw add-zero (sets-out (set l i x) (suc i) w i (λ q. omega arith) ∙ getD-set-same l i x 0 (omega arith))
+sets-in l i (x ∷ w) (suc d) h g =
+    let e : i + suc d ≡ suc i + d = omega arith in
+    rw e (sets-in (set l i x) (suc i) w d (le-of-suc-le-suc h) (rw length-set (omega arith)))
 
 pub at-written : (l : List ℕ) (k : ℕ) (a : Answer) (d : ℕ) → d < answerWords → k * answerWords + answerWords ≤ length l
     → at (written l k a) (k * answerWords + d) ≡ at (numberList (numbered a)) d
 unfolding written
-at-written l k a d h g = rw (stored-from l (k * answerWords) (numbered a)) (stored-in l (k * answerWords) (numberList (numbered a)) d h g)
+at-written l k a d h g = sets-in l (k * answerWords) (numberList (numbered a)) d h g
 
 pub written-keeps : (l : List ℕ) (k : ℕ) (a : Answer) (j : ℕ) → (eqb (j / answerWords) k ≡ false) → at (written l k a) j ≡ at l j
 unfolding written
 written-keeps l k a j o =
     let z = eqb-false (j / answerWords) k o in
-    rw (stored-from l (k * answerWords) (numbered a)) (stored-out l (k * answerWords) (numberList (numbered a)) j (λ g. omega arith))
+    sets-out l (k * answerWords) (numberList (numbered a)) j (λ g. omega arith)
 
 pub length-written : (l : List ℕ) (k : ℕ) (a : Answer) → length (written l k a) ≡ length l
 unfolding written
-length-written l k a = simp length-set
+length-written l k a = length-sets l (k * answerWords) (numberList (numbered a))
 
 -- the words of answer j, once it is written
 pub words-written : (x : List ℕ) (j : ℕ) (a : Answer) → j * answerWords + answerWords ≤ length x → wordsAt (written x j a) j ≡ numberList (numbered a)

@@ -1,5 +1,4 @@
 // An MSI: its number, its form, and what it comes to as it arrives.
-use interrupts::HOLDING;
 use interrupts::P;
 use interrupts::Q;
 use interrupts::in_range;
@@ -7,11 +6,12 @@ use kinds::answer::Answer;
 use kinds::answer::Reason;
 use kinds::number::ByteAddress;
 use kinds::number::PeNumber;
-use kinds::outcome;
 use kinds::outcome::Effect;
 use kinds::outcome::Outcome;
 use kinds::record::Interrupt;
 use kinds::request::Direction;
+use outcomes;
+use profile::limits::HOLDING;
 ghost use mathlib.Core.Path.{_≡_};
 ghost use Prim.Native.Nat.{_%_};
 ghost use lib.Bits.{bitOr};
@@ -105,7 +105,7 @@ pub fn arrive(number: u64, interrupt: Interrupt) -> Outcome
 fn msi_refused(address: ByteAddress) -> Outcome
     ensures { λ r. ⌜ r ≡ failed MsiRefused address 0 ⌝ }
 {
-    outcome::failed(Reason::MsiRefused, address, 0)
+    outcomes::failed(Reason::MsiRefused, address, 0)
 }
 
 // An MSI of a PE, with its number and the words of that interrupt.

@@ -1,7 +1,8 @@
 -- The names of answers.
 --     names               those of answers 0 to 6
 --     nameOf k            the name of answer number k; `bad` from 7 on
---     padded t            text t with zeros after it, 6 bytes in all
+--     nameMost            the letters of a name at most
+--     padded t            text t with zeros after it, nameMost bytes in all
 -- Assumes nothing.
 use mathlib.Core.List.{List, [], _∷_, _++_}
 use Prim.Native.Nat.{ℕ}
@@ -14,5 +15,8 @@ names = bytes "pass" ∷ bytes "msi" ∷ bytes "held" ∷ bytes "ones" ∷ bytes
 unfoldable pub nameOf : ℕ → List ℕ
 nameOf k = getD names k (bytes "bad")
 
+abbrev pub nameMost : ℕ
+nameMost = 6
+
 unfoldable pub padded : List ℕ → List ℕ
-padded t = take 6 (t ++ replicate 6 0)
+padded t = take nameMost (t ++ replicate nameMost 0)

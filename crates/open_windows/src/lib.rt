@@ -14,6 +14,7 @@ const M32_MOST: u32 = 32;
 const M64_LEAST: u32 = 28;
 
 const M64_MOST: u32 = 50;
+
 // The PCI side of M32 ends here at the latest.
 const PCI_END: u64 = 0x1_0000_0000;
 

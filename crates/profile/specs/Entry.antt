@@ -1,7 +1,7 @@
 -- 01, 'DMA': the class of an address, the translation entry that it picks, and what the entry says before memory is read.
 --     classOf a           what address bits 63 to 60 ask for; within class 0, 0xFFFF0000..0xFFFFFFFF is the 32-bit MSI window
 --     entryIn l p h       the first (h = 0) or second (h = 1) record of PE p in the table l of translation entries; entry f p h: in the tables f
---     half a, offset a    bit 59 of the address, and its low 59 bits
+--     offsetBits          59, the bits of an offset; half a, offset a: the bit of the address above them, and its low 59 bits
 --     pageSize e          the page size of page code 1, 5, 13 or 17: 2 ^ (code + 11) bytes
 --     pageOf e a          the page of the offset of a, by that size
 --     indexBits e         a table has 2 ^ (code + 8) words
@@ -37,11 +37,14 @@ classOf a =
     cond (eqb (a .0 / 2 ^ 60) 0) (cond (leb 0xFFFF0000 (a .0) && leb (a .0) 0xFFFFFFFF) Msi32 Dma)
     (cond (eqb (a .0 / 2 ^ 60) 1) Msi64 Unserved)
 
+abbrev pub offsetBits : ℕ
+offsetBits = 59
+
 abbrev pub half : ByteAddress → ℕ
-half a = a .0 / 2 ^ 59 % 2
+half a = a .0 / 2 ^ offsetBits % 2
 
 abbrev pub offset : ByteAddress → ByteAddress
-offset a = record { 0 = a .0 % 2 ^ 59 }
+offset a = record { 0 = a .0 % 2 ^ offsetBits }
 
 abbrev pub entryIn : List ℕ → PeNumber → (half : ℕ) → TranslationEntry
 entryIn l p h = record {
@@ -82,7 +85,7 @@ bypassGood e = ltb (e .base) (e .levels) && leb (e .levels) (2 ^ 35)
 unfoldable pub pagesGood : TranslationEntry → Bool
 pagesGood e =
     (eqb (e .page) 1 || eqb (e .page) 5 || eqb (e .page) 13 || eqb (e .page) 17)
-    && leb 1 (e .levels) && leb (e .levels) 5 && aligned (indexBits e) (record { 0 = e .base }) && leb (span e) 59
+    && leb 1 (e .levels) && leb (e .levels) 5 && aligned (indexBits e) (record { 0 = e .base }) && leb (span e) offsetBits
 
 unfoldable pub walks : TranslationEntry → ByteAddress → Bool
 walks e a = tableGood e && not (bypass e) && pagesGood e && ltb (offset a .0) (2 ^ span e)

@@ -14,7 +14,7 @@ use Rattle.kinds.specs.declared.outcome.Effect.the-variants.{Keep}
 use Rattle.kinds.specs.declared.outcome.Effect.the-variants as effect
 use Rattle.kinds.specs.declared.outcome.Outcome.{Outcome}
 use Rattle.kinds.specs.declared.record.Interrupt.{Interrupt}
-use Rattle.profile.specs.Msi.{ranged, arrives}
+use Rattle.profile.specs.Msi.{holding, ranged, arrives}
 
 -- a firmware request of an interrupt, whose number and PE are good: 14 where another word is out of its range
 abbrev pub onGood : Interrupt → Outcome → Outcome
@@ -25,11 +25,11 @@ unfoldable pub ends : ℕ → Interrupt → Outcome
 ends i e =
     cond (ltb (e .bits) 2) (done Keep)
     (cond (eqb (e .bits) 2) (done (effect.Interrupt i (e .priority) 0))
-    (cond (eqb (e .priority) 255) (done (effect.Interrupt i (e .priority) 1))
+    (cond (eqb (e .priority) holding) (done (effect.Interrupt i (e .priority) 1))
     (record { answer = Msi i (e .server) (e .priority); effect = effect.Interrupt i (e .priority) 2 })))
 
 unfoldable pub prioritized : ℕ → (priority : ℕ) → Interrupt → Outcome
 prioritized i n e =
-    cond (eqb (e .priority) 255 && not (eqb n 255) && eqb (e .bits % 2) 1)
+    cond (eqb (e .priority) holding && not (eqb n holding) && eqb (e .bits % 2) 1)
     (arrives i (record { pe = e .pe; server = e .server; priority = n; bits = e .bits / 2 * 2 }))
     (done (effect.Interrupt i n (e .bits)))

@@ -8,6 +8,7 @@ pub mod Cases
 pub mod DmaCases
 pub mod Entry
 pub mod Firmware
+pub mod FirmwareLaws
 pub mod Freeze
 pub mod FreezeCases
 pub mod Limits

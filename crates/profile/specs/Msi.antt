@@ -1,6 +1,7 @@
 -- 01, 'MSI'.
 --     interruptIn l i     the record of interrupt i in the interrupts l; interrupt s i: in what is written
 --     stored p i n b l    the interrupts l after PE p wrote priority n and state b of interrupt i
+--     holding             255, the priority that holds every MSI; no priority is above it
 --     ranged e            server below 2 ^ 24, priority at most 255, state at most 3
 --     number32, number64  the number of an MSI: the low five bits of data ORed with address bits 15..4 or 19..4
 --     msiFormed d a n     a write (isWrite d) of 4 bytes at a multiple of 4
@@ -46,8 +47,11 @@ abbrev pub stored : PeNumber → (i priority bits : ℕ) → List ℕ → List �
 stored p i n b l =
     cond (eqb (interruptIn l i .pe) (p .0)) (set (set l (i * interruptWords + 2) n) (i * interruptWords + 3) b) l
 
+abbrev pub holding : ℕ
+holding = 255
+
 unfoldable pub ranged : Interrupt → Bool
-ranged e = ltb (e .server) (2 ^ 24) && leb (e .priority) 255 && leb (e .bits) 3
+ranged e = ltb (e .server) (2 ^ 24) && leb (e .priority) holding && leb (e .bits) 3
 
 unfoldable pub number32 : ByteAddress → ℕ → ℕ
 number32 a d = bitOr (d % 32) (a .0 / 16 % 2 ^ 12)
@@ -63,7 +67,7 @@ unfoldable pub msiFormed : Direction → ByteAddress → (length : ℕ) → Bool
 msiFormed d a n = isWrite d && eqb n 4 && eqb (a .0 % 4) 0
 
 unfoldable pub presents : (priority bits : ℕ) → Bool
-presents p b = not (eqb p 255) && ltb b 2
+presents p b = not (eqb p holding) && ltb b 2
 
 unfoldable pub arrived : (priority bits : ℕ) → ℕ
 arrived p b = cond (presents p b) (b + 2) (b / 2 * 2 + 1)

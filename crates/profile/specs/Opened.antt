@@ -1,4 +1,5 @@
--- The definitions that one request goes through, under one name, for what is proved by computing: `unfolding opened`.
+-- The definitions that one request goes through, under one name, for what is proved by computing.
+--     opened              all of them: `unfolding opened`
 -- Assumes nothing.
 use Rattle.kinds.specs.Words.{mapAt}
 use Rattle.profile.specs.Tables.{sized, named}

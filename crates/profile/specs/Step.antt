@@ -40,7 +40,7 @@ use Rattle.profile.specs.Owner.{owner}
 use Rattle.profile.specs.Freeze.{stopWord, mmioStopped, dmaStopped, vector, froze, released}
 use Rattle.profile.specs.Entry.{classOf, half, entry, pageSize, pageOf, walks, unwalked}
 use Rattle.profile.specs.Walk.{walk, arrive}
-use Rattle.profile.specs.Msi.{interrupt, stored, number32, number64, msiFormed, msi}
+use Rattle.profile.specs.Msi.{holding, interrupt, stored, number32, number64, msiFormed, msi}
 use Rattle.profile.specs.Firmware.{onGood, ends, prioritized}
 use Rattle.profile.specs.Windows.{route, onesOf}
 
@@ -59,7 +59,7 @@ formed (Store a w) = accessFormed a w
 formed (Error r) = true
 formed (Clear p c) = true
 formed (End i) = true
-formed (Priority i n) = leb n 255
+formed (Priority i n) = leb n holding
 
 -- all that is known of a request before memory is read: its outcome, or that the page table of its PE is walked
 pub data Asked : Type 0 where

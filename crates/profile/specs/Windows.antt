@@ -5,6 +5,7 @@
 --     m32Open b n c       M32 of base b, size n and PCI base c is open: 1 MiB to 4 GiB, both bases multiples of the size, the PCI side ending at or
 --                         below 2 ^ 32
 --     m64Open w           an M64 window is open: 256 MiB to 2 ^ 50, its base a multiple of the size, mode 1 or 2
+--     m32Words ..         the words of M32, which come first, of an M64 window, and the number of M64 windows
 --     window ws k         M64 window k of the table
 --     m64Pe w a           the number that window w gives as the PE of a: its PE word in mode 1, else the segment
 --     m64 w a h           what window w gives where it takes a, else h; m64From ws n k a: the first of n windows from window k that takes a
@@ -42,12 +43,21 @@ m64Open w = isPower 28 22 (w .size) && eqb (w .base % w .size) 0 && (eqb (w .mod
 unfoldable pub m64Pe : Window → ByteAddress → ℕ
 m64Pe w a = cond (eqb (w .mode) 1) (w .pe) (segmentOf (w .base) (w .size) a)
 
+abbrev pub m32Words : ℕ
+m32Words = 3
+
+abbrev pub m64Words : ℕ
+m64Words = 4
+
+abbrev pub m64Count : ℕ
+m64Count = 16
+
 abbrev pub window : List ℕ → ℕ → Window
 window ws k = record {
-  base = at ws (3 + k * 4);
-  size = at ws (3 + (k * 4 + 1));
-  mode = at ws (3 + (k * 4 + 2));
-  pe = at ws (3 + (k * 4 + 3));
+  base = at ws (m32Words + k * m64Words);
+  size = at ws (m32Words + (k * m64Words + 1));
+  mode = at ws (m32Words + (k * m64Words + 2));
+  pe = at ws (m32Words + (k * m64Words + 3));
 }
 
 unfoldable pub m64 : Window → ByteAddress → Hit → Hit
@@ -62,7 +72,7 @@ unfoldable pub route : (windows segments : List ℕ) → ByteAddress → Hit
 route ws ss a =
     cond (m32Open (at ws 0) (at ws 1) (at ws 2) && covers (at ws 0) (at ws 1) a)
     (At (at ss (segmentOf (at ws 0) (at ws 1) a)) (record { 0 = a .0 - at ws 0 + at ws 2 }))
-    (m64From ws 16 0 a)
+    (m64From ws m64Count 0 a)
 
 unfoldable pub onesOf : (width : ℕ) → ℕ
 onesOf w = 2 ^ (8 * w) - 1

@@ -1,1 +1,2 @@
-// The definition of the profile: what every request is answered and leaves, with laws and cases. All of it stands in specs/.
+// The definition of the profile: what every request is answered and leaves, with laws and cases. It stands in specs/; the code's constants are here.
+pub mod limits;

@@ -1,126 +1,16 @@
 -- What the functions of a replay cite.
---     counted-out, no-line, line-room     whether an output line has room, test by test
---     wrote-to, wrote-none                an output line, where there is room
---     close-went .. fit-pending           each branch of the functions over what became of a line
---     closed-silent, closed-says, closed-none     what a reply writes
+--     moved-on, moved-stays               what became of a line feed
 -- Assumes nothing.
-use mathlib.Core.Path.{_≡_, refl, sym, ap, _∙_}
-use mathlib.Core.Bool.{Bool, true, false, cond, _&&_}
-use mathlib.Core.List.{List}
-use Prim.Native.Nat.{ℕ, _+_, _-_, _≤_, _<_}
-use native.Mathlib.Nat.{add-zero}
-use native.Mathlib.Omega.{arith}
-use lib.Dec.{eqb, ltb, leb}
-use lib.ListN.{length}
-use lib.Seq.{sets}
-use borrow.Author.Tests.{lt-ltb, le-ltb, lt-leb, le-leb, leb-true, leb-false, eq-eqb, ne-eqb}
-use Rattle.kinds.specs.Tests.{by-cases, clash}
-use Rattle.kinds.specs.declared.answer.Numbers.{Numbers}
-use Rattle.report.specs.Text.{answerLine, lineMost}
-use Rattle.report.specs.TextLaws.{line-most}
-use Rattle.report.specs.Written.{placed, written}
-use Rattle.report.specs.WrittenLaws.{written-is}
-use Rattle.report.specs.declared.Written.{Written}
-use Rattle.report.specs.declared.Written.the-variants.{To as WrittenTo, NoRoom}
-use Rattle.session.specs.declared.Ran.{Ran}
-use Rattle.session.specs.declared.Reply.{Reply}
-use Rattle.session.specs.declared.Reply.the-variants.{Silent, Says, NoRoom as NoReply}
-use Rattle.stream.specs.Feed.{lastCount}
-use Rattle.replay.specs.Promise.{wentBy, closedBy, endedBy, movedBy, finishedBy}
-use Rattle.stream.specs.Replay.{textOf}
-use Rattle.stream.specs.Stream.{lineKept}
-use Rattle.replay.specs.declared.Closed.{Closed}
-use Rattle.replay.specs.declared.Ended.{Ended}
-use Rattle.replay.specs.declared.Finished.the-variants.{To, NoRoom as NoRoomLeft}
+use mathlib.Core.Path.{_≡_}
+use mathlib.Core.Bool.{true, false}
+use Prim.Native.Nat.{ℕ, _+_}
+use Rattle.line_end.specs.declared.Ended.{Ended}
+use Rattle.replay.specs.Promise.{movedBy}
 use Rattle.replay.specs.declared.Moved.{Moved}
 
-module _ (n l a : ℕ) where
-  abbrev room : Bool
-  room = ltb n lastCount && leb (a + lineMost) l
+module _ (e : Ended) (j n : ℕ) where
+  pub moved-on : e .ended ≡ true → _≡_ {A = Moved} (record { progress = e .progress; at = e .at; next = j + 1; limit = n }) (movedBy e j n)
+  moved-on h = rw h
 
-  pub counted-out : lastCount ≤ n → false ≡ room
-  counted-out h = rw (le-ltb n lastCount h)
-
-  pub no-line : n < lastCount → l < 87 → false ≡ room
-  no-line h g = rw (lt-ltb n lastCount h, lt-leb (a + lineMost) l (omega arith))
-
-  pub line-room : n < lastCount → 87 ≤ l → leb a (l - 87) ≡ room
-  line-room h g =
-      rw (lt-ltb n lastCount h)
-      (by-cases (leb a (l - 87))
-      (λ t. rw (t, le-leb (a + lineMost) l (omega (arith, leb-true a (l - 87) t))))
-      (λ t. rw (t, lt-leb (a + lineMost) l (omega (arith, leb-false a (l - 87) t)))))
-
--- the place of a line that was written
-abbrev endOf : Written → ℕ
-endOf (WrittenTo e) = e
-endOf NoRoom = 0
-
-abbrev isTo : Written → Bool
-isTo (WrittenTo e) = true
-isTo NoRoom = false
-
-module _ (o : List ℕ) (a n : ℕ) (x : Numbers) (h : a + lineMost ≤ length o) where
-  abbrev line : List ℕ
-  line = answerLine n x
-
-  placed-is : placed lineMost o a line ≡ WrittenTo (a + length line)
-  unfolding placed
-  placed-is = rw (le-leb (a + lineMost) (length o) h)
-
-  pub wrote-to : {w : Written} {e : ℕ} {p : List ℕ} → w ≡ WrittenTo e → (w ≡ placed lineMost o a line) × (p ≡ written lineMost o a line) → (e ≡ a + length line) × (p ≡ sets o a line)
-  wrote-to {e = e} t f =
-      (ap endOf (sym t ∙ f .0 ∙ placed-is), f .1 ∙ sym (written-is lineMost o a line h (line-most n x)))
-
-  pub wrote-none : {w : Written} {p : List ℕ} → w ≡ NoRoom → (w ≡ placed lineMost o a line) × (p ≡ written lineMost o a line) → (a ≡ a + length line) × (p ≡ sets o a line)
-  wrote-none t f = clash {b = false} (ap isTo (sym t ∙ f .0 ∙ placed-is)) refl
-
-module _ (o : List ℕ) (a n : ℕ) (r : Reply) where
-  pub closed-silent : r ≡ Silent → (_≡_ {A = Closed} (record { at = a; count = n; went = true }) (closedBy a n r)) × (o ≡ sets o a (textOf n r))
-  closed-silent e = rw (e, add-zero a) (refl, refl)
-
-  pub closed-none : r ≡ NoReply → (_≡_ {A = Closed} (record { at = a; count = n; went = false }) (closedBy a n r)) × (o ≡ sets o a (textOf n r))
-  closed-none e = rw (e, add-zero a) (refl, refl)
-
-  pub closed-says : {e : ℕ} {p : List ℕ} {x : Numbers} → r ≡ Says x → (e ≡ a + length (answerLine (n + 1) x)) × (p ≡ sets o a (answerLine (n + 1) x)) →
-      (_≡_ {A = Closed} (record { at = e; count = n + 1; went = true }) (closedBy a n r)) × (p ≡ sets o a (textOf n r))
-  closed-says e w = rw (e, w .0) (refl, w .1)
-
--- only a line without room for its tables stays
-stays : (r : Reply) → wentBy r ≡ false → r ≡ NoReply
-stays Silent h = clash refl h
-stays (Says x) h = clash refl h
-stays NoReply h = refl
-
--- the end of a line that ran
-module _ (a b n : ℕ) (r : Ran) {c : Closed} (e : c ≡ closedBy a n (r .reply)) where
-  pub close-went : c .went ≡ true →
-      _≡_ {A = Ended} (record { progress = record { extent = r .extent; pending = 0; count = c .count }; at = c .at; went = true }) (endedBy a b n r)
-  close-went h =
-      let w : wentBy (r .reply) ≡ true = sym (ap (λ (x : Closed). x .went) e) ∙ h in
-      rw (e, w)
-
-  pub close-stays : c .went ≡ false →
-      _≡_ {A = Ended} (record { progress = record { extent = r .extent; pending = b; count = n }; at = a; went = false }) (endedBy a b n r)
-  close-stays h = rw (stays (r .reply) (sym (ap (λ (x : Closed). x .went) e) ∙ h), add-zero a)
-
-module _ (e : Ended) (j : ℕ) where
-  pub moved-went : e .went ≡ true → _≡_ {A = Moved} (record { progress = e .progress; at = e .at; next = j + 1; went = true }) (movedBy e j)
-  moved-went h = rw h
-
-  pub moved-stays : e .went ≡ false → _≡_ {A = Moved} (record { progress = e .progress; at = e .at; next = j; went = false }) (movedBy e j)
+  pub moved-stays : e .ended ≡ false → _≡_ {A = Moved} (record { progress = e .progress; at = e .at; next = j; limit = j }) (movedBy e j n)
   moved-stays h = rw h
-
-module _ (e : Ended) where
-  pub finished-went : e .went ≡ true → To (e .progress) (e .at) ≡ finishedBy e
-  finished-went h = rw h
-
-  pub finished-stays : e .went ≡ false → NoRoomLeft (e .progress) ≡ finishedBy e
-  finished-stays h = rw h
-
-module _ (l p : ℕ) where
-  pub fit-not : (l ≡ lineKept → ⊥) → false ≡ (eqb l lineKept && leb p lineKept)
-  fit-not h = rw (ne-eqb l lineKept h)
-
-  pub fit-pending : l ≡ lineKept → leb p lineKept ≡ (eqb l lineKept && leb p lineKept)
-  fit-pending h = rw (eq-eqb l lineKept h)

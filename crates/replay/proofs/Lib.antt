@@ -1,4 +1,2 @@
-pub mod EndLaws
-pub mod FeedLaws
 pub mod Laws
 pub mod TakeLaws

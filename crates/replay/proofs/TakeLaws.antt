@@ -1,13 +1,13 @@
 -- What the functions over the bytes of an input cite.
 --     keep-start, keep-byte, keep-over, keep-feed, keep-done      the bytes of a line: what is kept from the start is what is kept from here
 --     moved-feed, moved-all               a line feed, and an input that ended before one
---     run-start, run-more, run-stop, run-done     the lines of an input: the run from the start is the run from here, i bytes later
+--     Here, run-start, run-within, run-more, run-less, run-done   the lines of an input: the run from the start is the run from here, i bytes later
 --     lengths-same                        lists of the same lengths
 -- Assumes nothing.
 use mathlib.Core.Path.{_≡_, refl, sym, ap, subst, _∙_}
 use mathlib.Core.Bool.{Bool, true, false, cond}
 use mathlib.Core.List.{List, [], _∷_}
-use Prim.Native.Nat.{ℕ, suc, _+_, _≤_, _<_}
+use Prim.Native.Nat.{ℕ, suc, _+_, _-_, _≤_, _<_}
 use native.Mathlib.Nat.{add-zero, zero-add, add-assoc, add-suc, suc-add}
 use native.Mathlib.Numerals.{add-one}
 use native.Mathlib.Omega.{arith}
@@ -17,11 +17,12 @@ use lib.Seq.{sets, drop-cons, drop-drop, take-suc-set, length-take-le, getD-drop
 use borrow.Author.Tests.{ne-eqb, lt-ltb, le-ltb, eqb-true}
 use Rattle.kinds.specs.Tests.{by-cases, clash}
 use Rattle.kinds.specs.declared.record.Lengths.{Lengths}
-use Rattle.session.specs.Session.{Session}
+use Rattle.tables_in_use.specs.Tables.{Session}
 use Rattle.stream.specs.Feed.{free, Run, ran, later, run}
-use Rattle.replay.specs.FeedLaws.{Ran, run-fed}
-use Rattle.replay.specs.Promise.{EndedTo, KeptTo, MovedTo, FedTo}
-use Rattle.stream.specs.Replay.{lineFeed}
+use Rattle.replay.specs.FeedLaws.{FedBy, run-fed}
+use Rattle.line_end.specs.Promise.{EndedTo}
+use Rattle.replay.specs.Promise.{KeptTo, MovedTo, FedTo}
+use Rattle.fields.specs.Bytes.{lineFeed}
 use Rattle.stream.specs.Stream.{Stream, lineKept, held, before, heldAll, ended, ending, fed, said}
 
 -- what is kept of the bytes of l from place j on, after p, is what was kept from place i on, after q
@@ -129,11 +130,8 @@ module _ (k : Lengths) (c : ℕ) (s : Session) (a : ℕ) (o : List ℕ) {p l : L
   run-there : run k (line k c s a o p) a o (drop i l) ≡ later (before (drop i l)) (run k (line k c s a o q) a o (drop j l))
   run-there = run-kept k c s a o p (drop i l) ∙ rw (← h .kept, drop-drop (before (drop i l)) i l, ← h .next)
 
-  near : j ≤ length l
-  near = omega (arith, h .next, before-most (drop i l), length-drop i l)
-
-  pub moved-all : length l ≤ j → MovedTo k (line k c s a o p) a o l i true (line k c s a o q) a o j
-  moved-all f = record { bytes = before (drop i l); next = h .next; within = near; some = λ _. omega (arith, h .next); same = run-there }
+  pub moved-all : length l ≤ j → MovedTo k (line k c s a o p) a o l i (line k c s a o q) a o j (length l)
+  moved-all f = record { more = true; bytes = before (drop i l); next = h .next; limit = refl; some = λ _. omega (arith, h .next); same = run-there }
 
   module _ (f : j < length l) where
     feed-there : drop j l ≡ 10 ∷ drop (suc j) l
@@ -142,30 +140,32 @@ module _ (k : Lengths) (c : ℕ) (s : Session) (a : ℕ) (o : List ℕ) {p l : L
         drop-cons l j 0 f ∙ rw e
 
     module _ {u : Stream} {y : ℕ} {v : List ℕ} where
-      moved-end : EndedTo k (line k c s a o q) a o true u y v → MovedTo k (line k c s a o p) a o l i true u y v (j + 1)
+      moved-end : EndedTo k (line k c s a o q) a o true u y v → MovedTo k (line k c s a o p) a o l i u y v (j + 1) (length l)
       moved-end d =
           record {
+            more = true;
             bytes = before (drop i l) + 1;
             next = omega (arith, h .next);
-            within = omega arith;
+            limit = refl;
             some = λ _. omega arith;
             same = run-there ∙ rw (feed-there, run-ended k (line k c s a o q) a o (drop (suc j) l) d, add-one j) (later-more (before (drop i l)) 1 (run k u y v (drop (suc j) l)) ∙ rw (add-one (before (drop i l))));
           }
 
-      moved-stop : EndedTo k (line k c s a o q) a o false u y v → MovedTo k (line k c s a o p) a o l i false u y v j
+      moved-stop : EndedTo k (line k c s a o q) a o false u y v → MovedTo k (line k c s a o p) a o l i u y v j j
       moved-stop d =
           record {
+            more = false;
             bytes = before (drop i l);
             next = h .next;
-            within = near;
+            limit = refl;
             some = λ w. clash {b = false} w refl;
             same = run-there ∙ rw (feed-there, run-stuck k (line k c s a o q) a o (drop (suc j) l) d);
           }
 
-    pub moved-feed : {went : Bool} {u : Stream} {y : ℕ} {v : List ℕ} → EndedTo k (line k c s a o q) a o went u y v →
-        MovedTo k (line k c s a o p) a o l i went u y v (cond went (j + 1) j)
-    moved-feed {went = true} d = moved-end d
-    moved-feed {went = false} d = moved-stop d
+    pub moved-feed : {done : Bool} {u : Stream} {y : ℕ} {v : List ℕ} → EndedTo k (line k c s a o q) a o done u y v →
+        MovedTo k (line k c s a o p) a o l i u y v (cond done (j + 1) j) (cond done (length l) j)
+    moved-feed {done = true} d = moved-end d
+    moved-feed {done = false} d = moved-stop d
 
 pub lengths-same : {a b c d e f g h : ℕ} (a' b' c' d' e' f' g' h' : ℕ) → a ≡ a' → b ≡ b' → c ≡ c' → d ≡ d' → e ≡ e' → f ≡ f' → g ≡ g' → h ≡ h' →
     _≡_ {A = Lengths}
@@ -173,25 +173,52 @@ pub lengths-same : {a b c d e f g h : ℕ} (a' b' c' d' e' f' g' h' : ℕ) → a
     (record { requesters = a'; entries = b'; memory = c'; peers = d'; interrupts = e'; windows = f'; segments = g'; state = h' })
 lengths-same a' b' c' d' e' f' g' h' i j k l m n o p = rw (i, j, k, l, m, n, o, p)
 
--- here: stream t, output x with its end at z, after i bytes of l
-pub record Here (k : Lengths) (s : Stream) (a : ℕ) (o l : List ℕ) (t : Stream) (z : ℕ) (x : List ℕ) (i : ℕ) : Type 0 where
-  pub same : run k s a o l ≡ later i (run k t z x (drop i l))
+-- here: stream t, output x with its end at z, after i bytes of l; more can be taken, up to the end n of l, or n is i
+pub record Here (k : Lengths) (s : Stream) (a : ℕ) (o l : List ℕ) (t : Stream) (z : ℕ) (x : List ℕ) (i n : ℕ) : Type 0 where
+  pub more : Bool
+  pub limit : n ≡ cond more (length l) i
+  pub same : run k s a o l ≡ later i (cond more (run k t z x (drop i l)) (ran t z x 0))
 
-pub run-start : (k : Lengths) (s : Stream) (a : ℕ) (o l : List ℕ) → Here k s a o l s a o 0
-run-start k s a o l = record { same = sym (later-none (run k s a o l)) }
+pub run-start : (k : Lengths) (s : Stream) (a : ℕ) (o l : List ℕ) → Here k s a o l s a o 0 (length l)
+run-start k s a o l = record { more = true; limit = refl; same = sym (later-none (run k s a o l)) }
 
-module _ {k : Lengths} {s : Stream} {a : ℕ} {o l : List ℕ} {t : Stream} {z : ℕ} {x : List ℕ} {i : ℕ} (h : Here k s a o l t z x i) where
-  pub run-done : length l ≤ i → FedTo k s a o l i t z x
+module _ {k : Lengths} {s : Stream} {a : ℕ} {o l : List ℕ} {t : Stream} {z : ℕ} {x : List ℕ} {i n : ℕ} (h : Here k s a o l t z x i n) where
+  -- the run ended here
+  ended-here : n ≤ i → run k s a o l ≡ ran t z x i
   unfolding run
-  run-done g =
-      let e : run k s a o l ≡ ran t z x i = h .same ∙ rw (drop-of-length-le l {i = i} g, add-zero i) in
-      subst (λ (r : Run). Ran k s a o l r) e (run-fed k s a o l)
+  ended-here g =
+      by-cases (h .more)
+      (λ b. let m : n ≡ length l = rw b at (h .limit) in
+      let e : run k s a o l ≡ later i (run k t z x (drop i l)) = rw b at (h .same) in
+      e ∙ rw (drop-of-length-le l {i = i} (omega (arith, g, m)), add-zero i))
+      (λ b. let e : run k s a o l ≡ later i (ran t z x 0) = rw b at (h .same) in e ∙ rw (add-zero i))
 
-  module _ {m : Lengths} (e : m ≡ k) {u : Stream} {y : ℕ} {v : List ℕ} {j : ℕ} where
-    pub run-more : MovedTo m t z x l i true u y v j → Here k s a o l u y v j
-    run-more d = record { same = h .same ∙ rw (← e, d .same, later-more i (d .bytes) (run m u y v (drop j l)), d .next) }
+  pub run-done : n ≤ i → FedTo k s a o l i t z x
+  run-done g = subst (λ (r : Run). FedBy k s a o l r) (ended-here g) (run-fed k s a o l)
 
-    pub run-stop : MovedTo m t z x l i false u y v j → FedTo k s a o l j u y v
-    run-stop d =
-        let f : run k s a o l ≡ ran u y v j = h .same ∙ rw (← e, d .same, d .next, add-zero (d .bytes)) in
-        subst (λ (r : Run). Ran k s a o l r) f (run-fed k s a o l)
+  -- there is more
+  module _ (g : i < n) where
+    goes-on : h .more ≡ true
+    goes-on = by-cases (h .more) (λ b. b) (λ b. let m : n ≡ i = rw b at (h .limit) in absurd (omega (arith, g, m)))
+
+    to-end : n ≡ length l
+    to-end = h .limit ∙ rw goes-on
+
+    pub run-within : i < length l
+    run-within = omega (arith, g, to-end)
+
+    module _ {m : Lengths} (e : m ≡ k) {u : Stream} {y : ℕ} {v : List ℕ} {j n' : ℕ} (d : MovedTo m t z x l i u y v j n') where
+      pub run-more : Here k s a o l u y v j n'
+      run-more =
+          let from : run k s a o l ≡ later i (run k t z x (drop i l)) = h .same ∙ rw goes-on in
+          record {
+            more = d .more;
+            limit = d .limit;
+            same = from ∙ rw (← e, d .same, later-more i (d .bytes) (cond (d .more) (run m u y v (drop j l)) (ran u y v 0)), ← d .next);
+          }
+
+      pub run-less : n' - j < n - i
+      run-less =
+          by-cases (d .more)
+          (λ b. let f : n' ≡ length l = d .limit ∙ rw b in omega (arith, f, to-end, g, d .next, d .some b))
+          (λ b. let f : n' ≡ j = d .limit ∙ rw b in omega (arith, f, g))

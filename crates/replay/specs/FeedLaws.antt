@@ -1,5 +1,5 @@
 -- A run by its parts.
---     Ran k s a o l r     r has the bytes taken, the stream, the end and the output that `FedTo` promises
+--     FedBy k s a o l r   run r has the bytes taken, the stream, the end and the output that `FedTo` promises
 --     run-fed             how many bytes a run takes, and what they leave and write
 -- Assumes nothing.
 use mathlib.Core.Path.{refl, sym, ap, _∙_}
@@ -14,13 +14,13 @@ use Rattle.report.specs.WrittenLaws.{sets-append}
 use Rattle.stream.specs.Feed.{stuck, taken, Run, run}
 use Rattle.replay.specs.Promise.{FedTo}
 use Rattle.stream.specs.Stream.{Stream, fed, said, fedAll, saidAll}
-use Rattle.stream.specs.Whole.{whole}
+use Rattle.stream.specs.WholeLaws.{whole}
 
 -- a run as a promise
-abbrev pub Ran : Lengths → Stream → ℕ → (o l : List ℕ) → Run → Type 0
-Ran k s a o l r = FedTo k s a o l (r .bytes) (r .stream) (r .at) (r .out)
+abbrev pub FedBy : Lengths → Stream → ℕ → (o l : List ℕ) → Run → Type 0
+FedBy k s a o l r = FedTo k s a o l (r .bytes) (r .stream) (r .at) (r .out)
 
-pub run-fed : (k : Lengths) (s : Stream) (a : ℕ) (o l : List ℕ) → Ran k s a o l (run k s a o l)
+pub run-fed : (k : Lengths) (s : Stream) (a : ℕ) (o l : List ℕ) → FedBy k s a o l (run k s a o l)
 unfolding run taken fedAll saidAll
 run-fed k s a o [] = record { bytes = refl; stream = refl; at = sym (add-zero a); out = refl; whole = whole }
 run-fed k s a o (b ∷ l) =

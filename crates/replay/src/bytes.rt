@@ -1,19 +1,18 @@
-// The bytes of an input, line by line.
-use crate::Ended;
+// The bytes of a line of an input.
 use crate::Kept;
-use crate::LINE_KEPT;
 use crate::Moved;
-use crate::Progress;
-use crate::Taken;
-use crate::line::end_line;
+use fields::LINE_FEED;
+use line_end::Ended;
+use line_end::LINE_KEPT;
+use line_end::Progress;
+use line_end::end_line;
 ghost use mathlib.Core.Path.{_≡_};
 ghost use Prim.Native.Nat.{_^_, _≤_, _<_};
 ghost use lib.ListN.{length, take};
-ghost use Rattle.session.specs.Lent.{lengthsOf};
+ghost use Rattle.line_end.specs.Promise.{streamOf};
+ghost use Rattle.tables_in_use.specs.Lent.{lengthsOf};
 ghost use Rattle.stream.specs.Stream.{lineKept};
-ghost use Rattle.replay.specs.Promise.{FedTo, KeptTo, MovedTo, movedBy, streamOf};
-
-const LINE_FEED: u8 = 10;
+ghost use Rattle.replay.specs.Promise.{KeptTo, MovedTo, movedBy};
 
 // The bytes of a line from place `from` of the input on, kept after those that are pending.
 fn keep(line: &mut [u8], pending: usize, input: &[u8], from: usize) -> Kept
@@ -44,30 +43,30 @@ fn keep(line: &mut [u8], pending: usize, input: &[u8], from: usize) -> Kept
     }
 }
 
-// The line feed at place `next` of the input was taken if its line could end.
-fn moved_by(ended: Ended, next: usize) -> Moved
+// The line feed at place `next` of an input of `length` bytes was taken if its line could end; if not, no byte after it is.
+fn moved_by(ended: Ended, next: usize, length: usize) -> Moved
     requires { ⌜ next < 2 ^ 63 ⌝ }
-    ensures { λ r. ⌜ r ≡ movedBy ended next ⌝ }
+    ensures { λ r. ⌜ r ≡ movedBy ended next length ⌝ }
 {
     let progress = ended.progress;
-    if ended.went {
+    if ended.ended {
         return Moved {
             progress,
             at: ended.at,
             next: next + 1,
-            went: true,
+            limit: length,
         };
     }
     Moved {
         progress,
         at: ended.at,
         next,
-        went: false,
+        limit: next,
     }
 }
 
 // The bytes of an input from place `from` on, up to the end of a line.
-fn take_line(
+pub(crate) fn take_line(
     progress: Progress,
     requesters: &mut [u16],
     entries: &mut [u64],
@@ -84,7 +83,7 @@ fn take_line(
     at: usize,
 ) -> Moved
     requires { ⌜ (length (now line) ≡ lineKept) × (progress .pending ≤ lineKept) × (from < length (now input)) ⌝ }
-    ensures { λ r. ⌜ (MovedTo (lengthsOf (now (requesters .entry)) (now (entries .entry)) (now (memory .entry)) (now (peers .entry)) (now (interrupts .entry)) (now (windows .entry)) (now (segments .entry)) (now (state .entry))) (streamOf progress (now (line .entry)) (now (requesters .entry)) (now (entries .entry)) (now (memory .entry)) (now (peers .entry)) (now (interrupts .entry)) (now (windows .entry)) (now (segments .entry)) (now (state .entry))) at (now (out .entry)) (now (input .entry)) from (r .went) (streamOf (r .progress) (now (line .exit)) (now (requesters .exit)) (now (entries .exit)) (now (memory .exit)) (now (peers .exit)) (now (interrupts .exit)) (now (windows .exit)) (now (segments .exit)) (now (state .exit))) (r .at) (now (out .exit)) (r .next)) × (r .progress .pending ≤ lineKept) ⌝ }
+    ensures { λ r. ⌜ (MovedTo (lengthsOf (now (requesters .entry)) (now (entries .entry)) (now (memory .entry)) (now (peers .entry)) (now (interrupts .entry)) (now (windows .entry)) (now (segments .entry)) (now (state .entry))) (streamOf progress (now (line .entry)) (now (requesters .entry)) (now (entries .entry)) (now (memory .entry)) (now (peers .entry)) (now (interrupts .entry)) (now (windows .entry)) (now (segments .entry)) (now (state .entry))) at (now (out .entry)) (now (input .entry)) from (streamOf (r .progress) (now (line .exit)) (now (requesters .exit)) (now (entries .exit)) (now (memory .exit)) (now (peers .exit)) (now (interrupts .exit)) (now (windows .exit)) (now (segments .exit)) (now (state .exit))) (r .at) (now (out .exit)) (r .next) (r .limit)) × (r .progress .pending ≤ lineKept) ⌝ }
 {
     let kept = keep(line, progress.pending, input, from);
     let extent = progress.extent;
@@ -109,71 +108,12 @@ fn take_line(
             out,
             at,
         );
-        return moved_by(ended, next);
+        return moved_by(ended, next, input.len());
     }
     Moved {
         progress: held,
         at,
         next,
-        went: true,
-    }
-}
-
-// The bytes of an input, up to the first line that cannot end.
-pub(crate) fn take_bytes(
-    progress: Progress,
-    requesters: &mut [u16],
-    entries: &mut [u64],
-    memory: &mut [u64],
-    peers: &mut [u64],
-    interrupts: &mut [u64],
-    windows: &mut [u64],
-    segments: &mut [u16],
-    state: &mut [u64],
-    line: &mut [u8],
-    input: &[u8],
-    out: &mut [u8],
-    at: usize,
-) -> Taken
-    requires { ⌜ (length (now line) ≡ lineKept) × (progress .pending ≤ lineKept) ⌝ }
-    ensures { λ r. ⌜ (FedTo (lengthsOf (now (requesters .entry)) (now (entries .entry)) (now (memory .entry)) (now (peers .entry)) (now (interrupts .entry)) (now (windows .entry)) (now (segments .entry)) (now (state .entry))) (streamOf progress (now (line .entry)) (now (requesters .entry)) (now (entries .entry)) (now (memory .entry)) (now (peers .entry)) (now (interrupts .entry)) (now (windows .entry)) (now (segments .entry)) (now (state .entry))) at (now (out .entry)) (now (input .entry)) (r .bytes) (streamOf (r .progress) (now (line .exit)) (now (requesters .exit)) (now (entries .exit)) (now (memory .exit)) (now (peers .exit)) (now (interrupts .exit)) (now (windows .exit)) (now (segments .exit)) (now (state .exit))) (r .at) (now (out .exit))) × (r .progress .pending ≤ lineKept) ⌝ }
-{
-    let mut p = progress;
-    let mut end = at;
-    let mut i = 0;
-    while i < input.len() {
-        let moved = take_line(
-            p,
-            requesters,
-            entries,
-            memory,
-            peers,
-            interrupts,
-            windows,
-            segments,
-            state,
-            line,
-            input,
-            i,
-            out,
-            end,
-        );
-        let after = moved.progress;
-        if moved.went {
-            p = after;
-            end = moved.at;
-            i = moved.next;
-        } else {
-            return Taken {
-                progress: after,
-                bytes: moved.next,
-                at: moved.at,
-            };
-        }
-    }
-    Taken {
-        progress: p,
-        bytes: i,
-        at: end,
+        limit: input.len(),
     }
 }

@@ -1,18 +1,20 @@
 // Replays standard input to standard output.
+use input_end;
+use input_end::Finished;
+use line_end::Progress;
 use replay;
 use replay::Fed;
-use replay::Finished;
-use replay::Progress;
 use report;
 use report::Written;
 
 // The pieces that are read at most, of 4,096 bytes at most each.
 const MOST_PIECES: u64 = 1000000000000;
 
-// Where the replay stands after a piece, and whether there is more.
-struct Turn {
-    progress: Progress,
-    more: bool,
+// What became of a piece: there may be more; the input has ended; its answers could not be written, or it was not taken whole.
+enum Turn {
+    More(Progress),
+    Ended,
+    Failed,
 }
 
 // Writes the first `end` bytes of the output; whether it could.
@@ -49,10 +51,7 @@ fn piece(
     let got = libc::read(0, &mut buffer);
     let n = io::count(got, &buffer);
     if n == 0 {
-        return Turn {
-            progress,
-            more: false,
-        };
+        return Turn::Ended;
     }
     match replay::feed(
         progress,
@@ -74,16 +73,15 @@ fn piece(
             bytes,
             at,
         } => {
-            let written = flush(out, at);
-            Turn {
-                progress: next,
-                more: written,
+            if bytes < n {
+                return Turn::Failed;
             }
+            if flush(out, at) {
+                return Turn::More(next);
+            }
+            Turn::Failed
         }
-        Fed::Unfit => Turn {
-            progress,
-            more: false,
-        },
+        Fed::Unfit => Turn::Failed,
     }
 }
 
@@ -101,7 +99,7 @@ fn last(
     line: &[u8; 128],
     out: &mut [u8; 356352],
 ) {
-    match replay::finish(
+    match input_end::finish(
         progress,
         requesters,
         entries,
@@ -135,10 +133,13 @@ fn main() {
     let mut line = [0u8; 128];
     let mut out = [0u8; 356352];
     let mut progress = replay::start();
-    write_header(&mut out);
-    let mut pieces = MOST_PIECES;
+    let mut ended = false;
+    let mut pieces = 0;
+    if write_header(&mut out) {
+        pieces = MOST_PIECES;
+    }
     while 0 < pieces {
-        let turn = piece(
+        match piece(
             progress,
             &mut requesters,
             &mut entries,
@@ -150,25 +151,33 @@ fn main() {
             &mut state,
             &mut line,
             &mut out,
-        );
-        progress = turn.progress;
-        if turn.more {
-            pieces -= 1;
-        } else {
-            pieces = 0;
+        ) {
+            Turn::More(next) => {
+                progress = next;
+                pieces -= 1;
+            }
+            Turn::Ended => {
+                ended = true;
+                pieces = 0;
+            }
+            Turn::Failed => {
+                pieces = 0;
+            }
         }
     }
-    last(
-        progress,
-        &mut requesters,
-        &mut entries,
-        &mut memory,
-        &mut peers,
-        &mut interrupts,
-        &mut windows,
-        &mut segments,
-        &mut state,
-        &line,
-        &mut out,
-    );
+    if ended {
+        last(
+            progress,
+            &mut requesters,
+            &mut entries,
+            &mut memory,
+            &mut peers,
+            &mut interrupts,
+            &mut windows,
+            &mut segments,
+            &mut state,
+            &line,
+            &mut out,
+        );
+    }
 }

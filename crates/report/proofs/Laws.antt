@@ -1,99 +1,64 @@
 -- What the functions of `report` are proved from, a law to a `return` or a turn. Assumes nothing.
-use mathlib.Core.Path.{_≡_, _∙_}
+use mathlib.Core.Path.{_≡_, sym, _∙_}
+use mathlib.Core.Bool.{false}
 use mathlib.Core.List.{List, [], _∷_, _++_}
-use Prim.Native.Nat.{ℕ, zero, suc, _+_, _-_, _/_, _%_, _≤_, _<_}
-use native.Mathlib.Nat.{add-zero, add-suc, mod-lt}
-use native.Mathlib.Numerals.{add-one, sub-one}
+use Prim.Native.Nat.{ℕ, _+_, _-_, _≤_, _<_}
+use native.Mathlib.Nat.{add-zero, add-suc}
+use native.Mathlib.Numerals.{add-one}
 use native.Mathlib.Omega.{arith}
 use lib.ListN.{length, take, drop, getD, set, drop-of-length-le, length-append}
 use lib.Seq.{sets, length-sets, drop-cons}
-use borrow.Author.Tests.{lt-ltb, le-ltb, lt-leb, le-leb}
+use borrow.Author.Tests.{le-leb}
+use Rattle.digits.specs.Digits.{decimal, hexadecimal, ended, decimalRoom, hexadecimalRoom}
+use Rattle.digits.specs.DigitsLaws.{length-ended, decimal-room, hexadecimal-room}
+use Rattle.digits.specs.Written.{roomFor, past}
+use Rattle.digits.specs.WrittenLaws.{past-is}
+use Rattle.fields.specs.Bytes.{tab, lineFeed}
 use Rattle.names.specs.Name.{padded}
 use Rattle.names.specs.NameLaws.{name-most, padded-length, padded-name}
-use Rattle.report.specs.Text.{glyph, digits, placesFrom, places, decimal, hexadecimal, nameOf, ended, headOf, tailOf}
-use Rattle.report.specs.TextLaws.{length-ended, length-digits}
-use Rattle.report.specs.Written.{placed, written}
-use Rattle.report.specs.WrittenLaws.{sets-append, sets-last, written-is}
+use Rattle.report.specs.Text.{nameOf, headOf, tailOf, nameRoom, headMost, tailMost, lineMost}
+use Rattle.report.specs.TextLaws.{head-most}
+use Rattle.report.specs.Written.{placed, written, Wrote}
+use Rattle.report.specs.WrittenLaws.{sets-append, written-is}
 use Rattle.report.specs.declared.Written.the-variants.{To, NoRoom}
 
 -- a copy, from byte i on
-module _ (l m t : List ℕ) (a i : ℕ) where
-  pub put-turn : sets m (a + i) (drop i t) ≡ sets l a t → i < length t → sets (set m (a + i) (getD t i 0)) (a + (i + 1)) (drop (i + 1) t) ≡ sets l a t
-  put-turn same h = rw (add-one i, add-suc a i) (rw (drop-cons t i 0 h) at same)
-
-  pub put-end : sets m (a + i) (drop i t) ≡ sets l a t → length t ≤ i → m ≡ sets l a t
-  put-end same h = rw (drop-of-length-le t h) at same
-
 pub put-start : (l t : List ℕ) (a : ℕ) → sets l (a + 0) (drop 0 t) ≡ sets l a t
 put-start l t a = rw (add-zero a)
 
--- digits, the last first; i are left to write, those of r
-module _ (l m : List ℕ) (a b k n : ℕ) where
-  pub digits-turn : (i r : ℕ) {g : ℕ} → sets m a (digits b i r) ≡ sets l a (digits b k n) → 0 < i → g ≡ glyph (r % b)
-      → sets (set m (a + (i - 1)) g) a (digits b (i - 1) (r / b)) ≡ sets l a (digits b k n)
-  unfolding digits
-  digits-turn zero r same h e = absurd (omega arith)
-  digits-turn (suc j) r same h e =
-      rw (sub-one (suc j), e)
-      (rw (sets-last m a (digits b j (r / b)) (glyph (r % b)), length-digits b j (r / b)) at same)
+module _ (l m t : List ℕ) (a i : ℕ) (same : sets m (a + i) (drop i t) ≡ sets l a t) where
+  pub put-turn : i < length t → sets (set m (a + i) (getD t i 0)) (a + (i + 1)) (drop (i + 1) t) ≡ sets l a t
+  put-turn h = rw (add-one i, add-suc a i) (rw (drop-cons t i 0 h) at same)
 
-  pub digits-end : (i r : ℕ) → sets m a (digits b i r) ≡ sets l a (digits b k n) → i ≤ 0 → m ≡ sets l a (digits b k n)
-  unfolding digits
-  digits-end zero r same h = same
-  digits-end (suc j) r same h = absurd (omega arith)
-
-pub digit-below : (r b : ℕ) → 0 < b → b ≤ 16 → r % b < 16
-digit-below r b h k = let z = mod-lt r h in omega arith
-
--- the places of n; c are counted, r is what is left
-module _ (n c r : ℕ) (same : places n + 1 ≡ c + placesFrom (20 - c) r) where
-  pub places-turn : c < 20 → 10 ≤ r → places n + 1 ≡ c + 1 + placesFrom (20 - (c + 1)) (r / 10)
-  unfolding placesFrom
-  places-turn h k =
-      let e : 20 - c ≡ suc (20 - (c + 1)) = omega arith in
-      let z = rw (e, le-ltb r 10 k) at same in
-      omega arith
-
-  pub places-few : c < 20 → r < 10 → c ≡ places n
-  unfolding placesFrom
-  places-few h k =
-      let e : 20 - c ≡ suc (20 - (c + 1)) = omega arith in
-      let z = rw (e, lt-ltb r 10 k) at same in
-      omega arith
-
-  pub places-all : 20 ≤ c → c ≡ places n
-  unfolding placesFrom
-  places-all h =
-      let e : 20 - c ≡ 0 = omega arith in
-      let z = rw e at same in
-      omega arith
+  -- all of it, and the byte e
+  pub put-end : (e : ℕ) → i ≤ length t → length t ≤ i → Wrote (ended e t) l a (set m (a + i) e) (a + i + 1)
+  put-end e g h =
+      let all : i ≡ length t = omega arith in
+      let copied : m ≡ sets l a t = rw (drop-of-length-le t h) at same in
+      record { bytes = rw (sets-append l a t (e ∷ []), ← copied, all); next = rw (length-ended e t) (omega arith) }
 
 -- one text after another
-module _ (a : ℕ) (s t : List ℕ) {i : ℕ} (past : i ≡ a + length s) where
-  pub past-then : {r : ℕ} → r ≡ i + length t → r ≡ a + length (s ++ t)
-  past-then h = rw (length-append s t) (omega arith)
+pub wrote-then : {s t l m q : List ℕ} {a i r : ℕ} → Wrote s l a m i → Wrote t m i q r → Wrote (s ++ t) l a q r
+wrote-then {s} {t} {l} {a = a} f g =
+    record {
+      bytes = rw (sets-append l a s t, ← f .next, ← f .bytes) (g .bytes);
+      next = rw (length-append s t) (omega (arith, f .next, g .next));
+    }
 
-  pub sets-then : (l : List ℕ) {m q : List ℕ} → m ≡ sets l a s → q ≡ sets m i t → q ≡ sets l a (s ++ t)
-  sets-then l e h = rw (sets-append l a s t, ← past, ← e) h
+-- after a text of k bytes at most, c more bytes are free
+wrote-room : (k c : ℕ) {t l m : List ℕ} {a i : ℕ} → Wrote t l a m i → length t ≤ k → a + (k + c) ≤ length l → i + c ≤ length m
+wrote-room k c {t} {l} {a = a} f g h = rw (f .bytes, length-sets l a t) (omega (arith, f .next))
 
--- digits, and the byte e that ends them
-module _ (l : List ℕ) (a b k n e : ℕ) where
-  pub digits-ended : {m q : List ℕ} → m ≡ sets l a (digits b k n) → q ≡ sets m (a + k) (e ∷ []) → q ≡ sets l a (ended e (digits b k n))
-  digits-ended f h = sets-then a (digits b k n) (e ∷ []) (rw (length-digits b k n)) l f h
+-- a number where there is room
+field-wrote : (k : ℕ) (t l : List ℕ) (a : ℕ) {m : List ℕ} {i : ℕ} → length t ≤ k → a + k ≤ length l → i ≡ past k l a t → m ≡ written k l a t → Wrote t l a m i
+field-wrote k t l a g h p e = record { bytes = e ∙ sym (written-is k l a t h g); next = p ∙ past-is k l a t h }
 
-  pub digits-past : {r : ℕ} → r ≡ a + k + 1 → r ≡ a + length (ended e (digits b k n))
-  digits-past h = rw (length-ended e (digits b k n), length-digits b k n) (omega arith)
-
--- c are the places of n
-module _ (l : List ℕ) (a n e : ℕ) {c : ℕ} (f : c ≡ places n) where
-  pub decimal-ended : {m q : List ℕ} → m ≡ sets l a (digits 10 c n) → q ≡ sets m (a + c) (e ∷ []) → q ≡ sets l a (ended e (decimal n))
-  decimal-ended g h = digits-ended l a 10 (places n) n e (rw f at g) (rw f at h)
-
-  pub decimal-past : {r : ℕ} → r ≡ a + c + 1 → r ≡ a + length (ended e (decimal n))
-  decimal-past h = digits-past l a 10 (places n) n e (rw f at h)
+decimal-wrote : (e n : ℕ) (l : List ℕ) (a : ℕ) {m : List ℕ} {i : ℕ} → a + decimalRoom ≤ length l
+    → i ≡ past decimalRoom l a (ended e (decimal n)) → m ≡ written decimalRoom l a (ended e (decimal n)) → Wrote (ended e (decimal n)) l a m i
+decimal-wrote e n l a h = field-wrote decimalRoom (ended e (decimal n)) l a (decimal-room e n) h
 
 -- the name of answer number x, n letters of t, and a tab
-module _ (a x : ℕ) {t : List ℕ} {n : ℕ} (e : t ≡ padded (nameOf x)) (f : n ≡ length (nameOf x)) where
+module _ (x : ℕ) {t : List ℕ} {n : ℕ} (e : t ≡ padded (nameOf x)) (f : n ≡ length (nameOf x)) where
   pub letters-inside : n ≤ length t
   letters-inside = rw (e, f, padded-length) (name-most x)
 
@@ -103,67 +68,54 @@ module _ (a x : ℕ) {t : List ℕ} {n : ℕ} (e : t ≡ padded (nameOf x)) (f :
   pub letters-count : n ≡ length (take n t)
   letters-count = rw letters f
 
-  pub letters-room : (l : List ℕ) → a + 7 ≤ length l → a + length (take n t) ≤ length l
-  letters-room l h = rw letters (omega (arith, name-most x))
+  pub letters-room : (a : ℕ) (l : List ℕ) → a + nameRoom ≤ length l → a + length (take n t) < length l
+  letters-room a l h = rw letters (omega (arith, name-most x))
 
-  module _ {i : ℕ} (p : i ≡ a + length (take n t)) where
-    pub tab-room : (l : List ℕ) {m : List ℕ} → a + 7 ≤ length l → m ≡ sets l a (take n t) → i < length m
-    tab-room l h g = rw (g, length-sets) (omega (arith, name-most x, rw letters at p))
+  pub name-wrote : {a : ℕ} {l q : List ℕ} {r : ℕ} → Wrote (ended tab (take n t)) l a q r → Wrote (ended tab (nameOf x)) l a q r
+  name-wrote h = rw letters at h
 
-    pub name-ended : (l : List ℕ) {m q : List ℕ} → m ≡ sets l a (take n t) → q ≡ sets m i (9 ∷ []) → q ≡ sets l a (ended 9 (nameOf x))
-    name-ended l g h = sets-then a (nameOf x) (9 ∷ []) (rw letters at p) l (rw letters at g) h
+-- the first two fields of a line; p and e are of the first
+module _ (l : List ℕ) (a n x : ℕ) {m : List ℕ} {i : ℕ} (room : a + headMost ≤ length l)
+    (p : i ≡ past decimalRoom l a (ended tab (decimal n))) (e : m ≡ written decimalRoom l a (ended tab (decimal n))) where
+  number-wrote : Wrote (ended tab (decimal n)) l a m i
+  number-wrote = decimal-wrote tab n l a (omega arith) p e
 
-    pub name-past : {r : ℕ} → r ≡ i + 1 → r ≡ a + length (ended 9 (nameOf x))
-    name-past h = past-then a (nameOf x) (9 ∷ []) (rw letters at p) h
+  pub name-free : i + nameRoom ≤ length m
+  name-free = wrote-room decimalRoom nameRoom number-wrote (decimal-room tab n) room
 
-    pub name-within : {r : ℕ} → r ≡ i + 1 → r ≤ a + 7
-    name-within h = omega (arith, name-most x, rw letters at p, h)
-
--- the first two fields of a line
-module _ (a n x : ℕ) {i : ℕ} (p : i ≡ a + length (ended 9 (decimal n))) where
-  pub head-past : {r : ℕ} → r ≡ i + length (ended 9 (nameOf x)) → r ≡ a + length (headOf n x)
+  pub head-wrote : {q : List ℕ} {r : ℕ} → Wrote (ended tab (nameOf x)) m i q r → Wrote (headOf n x) l a q r
   unfolding headOf
-  head-past h = past-then a (ended 9 (decimal n)) (ended 9 (nameOf x)) p h
+  head-wrote h = wrote-then number-wrote h
 
-  pub head-whole : (l : List ℕ) {m q : List ℕ} → m ≡ sets l a (ended 9 (decimal n)) → q ≡ sets m i (ended 9 (nameOf x)) → q ≡ sets l a (headOf n x)
-  unfolding headOf
-  head-whole l e h = sets-then a (ended 9 (decimal n)) (ended 9 (nameOf x)) p l e h
+-- the other three; p and e are of the first, q and f of the second
+module _ (l : List ℕ) (a n v w : ℕ) {m : List ℕ} {i : ℕ} {k : List ℕ} {j : ℕ} (room : a + tailMost ≤ length l)
+    (p : i ≡ past decimalRoom l a (ended tab (decimal n))) (e : m ≡ written decimalRoom l a (ended tab (decimal n)))
+    (q : j ≡ past hexadecimalRoom m i (ended tab (hexadecimal v))) (f : k ≡ written hexadecimalRoom m i (ended tab (hexadecimal v))) where
+  reason-wrote : Wrote (ended tab (decimal n)) l a m i
+  reason-wrote = decimal-wrote tab n l a (omega arith) p e
 
--- and the other three
-module _ (a n v w : ℕ) {i j : ℕ} (p : i ≡ a + length (ended 9 (decimal n))) (q : j ≡ i + length (ended 9 (hexadecimal v))) where
-  pub tail-past : {r : ℕ} → r ≡ j + length (ended 10 (decimal w)) → r ≡ a + length (tailOf n v w)
+  value-free : i + (hexadecimalRoom + decimalRoom) ≤ length m
+  value-free = wrote-room decimalRoom (hexadecimalRoom + decimalRoom) reason-wrote (decimal-room tab n) (omega arith)
+
+  value-wrote : Wrote (ended tab (hexadecimal v)) m i k j
+  value-wrote = field-wrote hexadecimalRoom (ended tab (hexadecimal v)) m i (hexadecimal-room tab v) (omega (arith, value-free)) q f
+
+  words-free : j + decimalRoom ≤ length k
+  words-free = wrote-room hexadecimalRoom decimalRoom value-wrote (hexadecimal-room tab v) value-free
+
+  pub tail-wrote : {u : List ℕ} {r : ℕ} → r ≡ past decimalRoom k j (ended lineFeed (decimal w)) → u ≡ written decimalRoom k j (ended lineFeed (decimal w)) → Wrote (tailOf n v w) l a u r
   unfolding tailOf
-  tail-past h = past-then a (ended 9 (decimal n)) (ended 9 (hexadecimal v) ++ ended 10 (decimal w)) p (past-then i (ended 9 (hexadecimal v)) (ended 10 (decimal w)) q h)
+  tail-wrote g h = wrote-then reason-wrote (wrote-then value-wrote (decimal-wrote lineFeed w k j words-free g h))
 
-  pub tail-whole : (l : List ℕ) {l1 l2 l3 : List ℕ} → l1 ≡ sets l a (ended 9 (decimal n)) → l2 ≡ sets l1 i (ended 9 (hexadecimal v)) → l3 ≡ sets l2 j (ended 10 (decimal w))
-      → l3 ≡ sets l a (tailOf n v w)
-  unfolding tailOf
-  tail-whole l {l1} e f h =
-      sets-then a (ended 9 (decimal n)) (ended 9 (hexadecimal v) ++ ended 10 (decimal w)) p l e
-      (sets-then i (ended 9 (hexadecimal v)) (ended 10 (decimal w)) q l1 f h)
+pub tail-free : (l : List ℕ) (a n x : ℕ) {m : List ℕ} {i : ℕ} → a + lineMost ≤ length l → Wrote (headOf n x) l a m i → i + tailMost ≤ length m
+tail-free l a n x h f = wrote-room headMost tailMost f (head-most n x) h
 
 -- no room, and room
 module _ (m : ℕ) (o : List ℕ) (a : ℕ) (t : List ℕ) where
-  pub short-placed : length o < m → NoRoom ≡ placed m o a t
+  pub not-placed : roomFor m o a ≡ false → NoRoom ≡ placed m o a t
   unfolding placed
-  short-placed h = rw (lt-leb (a + m) (length o) (omega arith))
+  not-placed h = rw h
 
-  pub short-written : length o < m → o ≡ written m o a t
-  unfolding written
-  short-written h = rw (lt-leb (a + m) (length o) (omega arith))
-
-  pub late-placed : length o - m < a → NoRoom ≡ placed m o a t
+  pub text-placed : {q : List ℕ} {r : ℕ} → m ≤ length o → a ≤ length o - m → Wrote t o a q r → To r ≡ placed m o a t
   unfolding placed
-  late-placed h = rw (lt-leb (a + m) (length o) (omega arith))
-
-  pub late-written : length o - m < a → o ≡ written m o a t
-  unfolding written
-  late-written h = rw (lt-leb (a + m) (length o) (omega arith))
-
-  module _ (h : m ≤ length o) (g : a ≤ length o - m) where
-    pub placed-to : {r : ℕ} → r ≡ a + length t → To r ≡ placed m o a t
-    unfolding placed
-    placed-to e = rw (le-leb (a + m) (length o) (omega arith), e)
-
-    pub text-written : {q : List ℕ} → length t ≤ m → q ≡ sets o a t → q ≡ written m o a t
-    text-written k e = e ∙ written-is m o a t (omega arith) k
+  text-placed h g f = rw (le-leb (a + m) (length o) (omega arith), f .next)

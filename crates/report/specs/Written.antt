@@ -1,22 +1,22 @@
--- A text written into a list of bytes, where enough of them are free.
---     roomFor m o a       m bytes of o are free from place a on
+-- A text written into a list of bytes.
 --     placed m o a t      what is answered where text t is to be written into o at place a, and m bytes have to be free there: the place after it, or NoRoom
---     written m o a t     the bytes of o afterwards: t in their place, or all as they were
+--     written m o a t     the bytes of o afterwards (of `digits`)
+--     Wrote t o a q r     t was written into o at place a: q are the bytes afterwards, and r is the place after it
 -- Assumes nothing.
-use mathlib.Core.Bool.{Bool, cond}
-use mathlib.Core.List.{List, _++_}
+use mathlib.Core.Path.{_≡_}
+use mathlib.Core.Bool.{cond}
+use mathlib.Core.List.{List}
 use Prim.Native.Nat.{ℕ, _+_}
-use lib.Dec.{leb}
-use lib.ListN.{length, take, drop}
+use lib.ListN.{length}
+use lib.Seq.{sets}
+use Rattle.digits.specs.Written.{roomFor}
 use Rattle.report.specs.declared.Written.{Written}
 use Rattle.report.specs.declared.Written.the-variants.{To, NoRoom}
-
--- m bytes of o are free from place a on
-abbrev pub roomFor : ℕ → List ℕ → ℕ → Bool
-roomFor m o a = leb (a + m) (length o)
+unfoldable pub use Rattle.digits.specs.Written.{written}
 
 unfoldable pub placed : ℕ → List ℕ → ℕ → List ℕ → Written
 placed m o a t = cond (roomFor m o a) (To (a + length t)) NoRoom
 
-unfoldable pub written : ℕ → List ℕ → ℕ → List ℕ → List ℕ
-written m o a t = cond (roomFor m o a) (take a o ++ t ++ drop (a + length t) o) o
+pub record Wrote (t o : List ℕ) (a : ℕ) (q : List ℕ) (r : ℕ) : Type 0 where
+  pub bytes : q ≡ sets o a t
+  pub next : r ≡ a + length t

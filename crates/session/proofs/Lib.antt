@@ -1,5 +1,3 @@
 pub mod LineLaws
+pub mod PartLaws
 pub mod RequestLaws
-pub mod SetLaws
-pub mod SizeLaws
-pub mod TableLaws

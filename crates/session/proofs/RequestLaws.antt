@@ -1,5 +1,4 @@
 -- What a request on the parts in use cites.
---     once-none, once-some    1 where there are PEs
 --     requested               a request handled on those parts is handled as the session's
 -- Assumes nothing.
 use mathlib.Core.Path.{_≡_, ap, _∙_}
@@ -7,27 +6,21 @@ use mathlib.Core.List.{List, _++_}
 use Prim.Native.Nat.{ℕ, _*_, min}
 use native.Mathlib.Nat.{mul-one}
 use lib.ListN.{length, take, drop}
-use borrow.Author.Tests.{eq-eqb, ne-eqb}
 use Rattle.kinds.specs.Answer.{numbered}
 use Rattle.kinds.specs.declared.answer.Answer.{Answer}
 use Rattle.kinds.specs.declared.answer.Numbers.{Numbers}
 use Rattle.kinds.specs.declared.request.Request.{Request}
-use Rattle.bridge.specs.Promise.{Handled}
-use Rattle.decision.specs.Tables.{tables, live}
+use Rattle.step.specs.Promise.{Handled}
+use Rattle.sizes.specs.Tables.{tables, live}
 use Rattle.profile.specs.Step.{after}
 use Rattle.profile.specs.Tables.{Tables, Live, entryWords, peerWords, interruptWords, windowWords, segmentCount, stateWords}
-use Rattle.session.specs.Lent.{lent, once}
+use Rattle.tables_in_use.specs.Lent.{lent, once}
+use Rattle.tables_in_use.specs.Tables.{Session}
+use Rattle.tables_in_use.specs.declared.Extent.{Extent}
+use Rattle.tables_in_use.specs.declared.Reply.the-variants.{Says}
 use Rattle.session.specs.Promise.{Requested}
-use Rattle.session.specs.Session.{Session, replyTo, afterLine}
-use Rattle.session.specs.declared.Extent.{Extent}
-use Rattle.session.specs.declared.Reply.the-variants.{Says}
-use Rattle.session.proofs.TableLaws.{part-words, part-after}
-
-pub once-none : (n : ℕ) → n ≡ 0 → 0 ≡ once n
-once-none n h = rw (eq-eqb n 0 h)
-
-pub once-some : (n : ℕ) → (n ≡ 0 → ⊥) → 1 ≡ once n
-once-some n h = rw (ne-eqb n 0 h)
+use Rattle.session.specs.Session.{replyTo, afterLine}
+use Rattle.session.proofs.PartLaws.{part-words, part-after}
 
 after-same : {f k : Tables} {m l : List ℕ} {s u : Live} (request : Request) → f ≡ k → m ≡ l → s ≡ u → after f m s request ≡ after k l u request
 after-same request a b c = rw (a, b, c)

@@ -1,31 +1,20 @@
 // Reason 1: whether the numbers N, M and R and the lengths of the lent tables are on the table of the profile.
 use kinds::record::Lengths;
 use kinds::record::Sizes;
+use profile::limits::ENTRY_WORDS;
+use profile::limits::INTERRUPT_WORDS;
+use profile::limits::MOST_INTERRUPTS;
+use profile::limits::MOST_MEMORY;
+use profile::limits::MOST_PES;
+use profile::limits::MOST_REQUESTERS;
+use profile::limits::PEER_WORDS;
+use profile::limits::SEGMENT_COUNT;
+use profile::limits::STATE_WORDS;
+use profile::limits::WINDOW_WORDS;
 ghost use mathlib.Core.Path.{_≡_};
 ghost use Prim.Native.Nat.{_≤_};
 ghost use Rattle.profile.specs.Tables.{mostPes, mostInterrupts, sized};
 ghost use Rattle.sizes.specs.Parts.{limited, dmaTables, otherTables};
-
-// The words that a PE or an interrupt has in each table, and the lengths that are fixed.
-const ENTRY_WORDS: u64 = 8;
-
-const PEER_WORDS: u64 = 4;
-
-const INTERRUPT_WORDS: u64 = 4;
-
-const STATE_WORDS: u64 = 3;
-
-const WINDOW_WORDS: u64 = 67;
-
-const SEGMENT_COUNT: u64 = 256;
-
-const MOST_PES: u64 = 256;
-
-const MOST_INTERRUPTS: u64 = 2048;
-
-const MOST_REQUESTERS: u64 = 65536;
-
-const MOST_MEMORY: u64 = 1048576;
 
 pub fn sized(sizes: Sizes, lengths: Lengths) -> bool
     ensures { λ r. ⌜ r ≡ sized sizes lengths ⌝ }

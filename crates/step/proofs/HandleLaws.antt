@@ -25,32 +25,32 @@ use Rattle.profile.specs.Step.{act, actBy, decidedBy, decided, after}
 use Rattle.profile.specs.Owner.{owner}
 use Rattle.profile.specs.Tables.{Tables, Live, lengths, sized, mostPes}
 use Rattle.sizes.specs.PartsLaws.{sized-pes}
-use Rattle.decision.specs.Promise.{knownOwner}
-use Rattle.decision.specs.PromiseLaws.{owner-reads}
-use Rattle.decision.specs.Tables.{tables, live}
-use Rattle.step.specs.Promise.{isKeep, Handled}
+use Rattle.owners.specs.Known.{known, knownOwner}
+use Rattle.owners.specs.KnownLaws.{owner-reads}
+use Rattle.sizes.specs.Tables.{tables, live}
+use Rattle.step.specs.Promise.{withPeers, isKeep, Handled}
 
 -- the effect e at PE p, on the state s and the interrupts l; v are the peers
-module _ (z : Sizes) (q n v w g : List ℕ) (p : PeNumber) {e : Effect} (s l : List ℕ) where
-  pub kept : e ≡ Keep → live s l ≡ act (tables z q n v w g) p e (live s l)
+module _ (v : List ℕ) (p : PeNumber) {e : Effect} (s l : List ℕ) where
+  pub kept : e ≡ Keep → live s l ≡ act (withPeers v) p e (live s l)
   unfolding act
   kept h = rw h
 
   pub frozen : {r : Reason} {x : ℕ} {t b : List ℕ} → e ≡ Freeze r x → b ≡ vectorIn v p → t ≡ froze b p (reasonNumber r) x s
-      → live t l ≡ act (tables z q n v w g) p e (live s l)
+      → live t l ≡ act (withPeers v) p e (live s l)
   unfolding act
   frozen h k i = rw (h, i, k)
 
-  pub freed : {c : Part} {t : List ℕ} → e ≡ Release c → t ≡ released c p s → live t l ≡ act (tables z q n v w g) p e (live s l)
+  pub freed : {c : Part} {t : List ℕ} → e ≡ Release c → t ≡ released c p s → live t l ≡ act (withPeers v) p e (live s l)
   unfolding act
   freed h i = rw (h, i)
 
-  pub interrupted : {i x b : ℕ} {t : List ℕ} → e ≡ Interrupt i x b → t ≡ stored p i x b l → live s t ≡ act (tables z q n v w g) p e (live s l)
+  pub interrupted : {i x b : ℕ} {t : List ℕ} → e ≡ Interrupt i x b → t ≡ stored p i x b l → live s t ≡ act (withPeers v) p e (live s l)
   unfolding act
   interrupted h k = rw (h, k)
 
 -- an effect reads the peers and no other fixed table
-pub act-reads : (f g : Tables) → f .peers ≡ g .peers → (p : PeNumber) (e : Effect) (s : Live) → act f p e s ≡ act g p e s
+act-reads : (f g : Tables) → f .peers ≡ g .peers → (p : PeNumber) (e : Effect) (s : Live) → act f p e s ≡ act g p e s
 unfolding act
 act-reads f g h p Keep s = refl
 act-reads f g h p (Freeze r x) s = rw h
@@ -58,13 +58,12 @@ act-reads f g h p (Release c) s = refl
 act-reads f g h p (Interrupt i x b) s = refl
 
 -- by the owner o: what `act` leaves, or nothing
-module _ (z z′ : Sizes) (v : List ℕ) {o : Owner} (e : Effect) (s l : List ℕ) where
-  pub owned : {p : PeNumber} {t k : List ℕ} → o ≡ Of p → live t k ≡ act (tables z′ [] [] v [] []) p e (live s l)
-      → live t k ≡ actBy (tables z [] [] v [] []) o e (live s l)
+module _ (v : List ℕ) {o : Owner} (e : Effect) (s l : List ℕ) where
+  pub owned : {p : PeNumber} {t k : List ℕ} → o ≡ Of p → live t k ≡ act (withPeers v) p e (live s l) → live t k ≡ actBy (withPeers v) o e (live s l)
   unfolding actBy
-  owned {p = p} h k = rw h (k ∙ act-reads (tables z′ [] [] v [] []) (tables z [] [] v [] []) refl p e (live s l))
+  owned h k = rw h k
 
-  pub unowned : {r : Reason} → o ≡ Nobody r → live s l ≡ actBy (tables z [] [] v [] []) o e (live s l)
+  pub unowned : {r : Reason} → o ≡ Nobody r → live s l ≡ actBy (withPeers v) o e (live s l)
   unfolding actBy
   unowned h = rw h
 
@@ -106,12 +105,13 @@ module _ (f : Tables) (m : List ℕ) (s : Live) (y : Request) {x : Outcome} (h :
 
     -- where there is something to do, the owner is known
     owner-is : b ≡ false → knownOwner f s y ≡ owner f s y
+    unfolding known
     owner-is k = by-cases (leb (f .sizes .pes) mostPes) (λ o. rw o) (λ o. clash (rw (← h, ← i) at (large-keeps f m s y o)) k)
 
 pub done-at : (z : Sizes) (q e m v w g t l : List ℕ) (y : Request) {x : Outcome} {b : Bool} {o : Owner} {t′ l′ : List ℕ}
     → x ≡ decided (tables z q e v w g) m (live t l) y → b ≡ isKeep (x .effect) → b ≡ false → o ≡ knownOwner (tables z q [] [] w g) (live [] l) y
-    → live t′ l′ ≡ actBy (tables z [] [] v [] []) o (x .effect) (live t l) → Handled (tables z q e v w g) m (live t l) y (x .answer) (live t′ l′)
+    → live t′ l′ ≡ actBy (withPeers v) o (x .effect) (live t l) → Handled (tables z q e v w g) m (live t l) y (x .answer) (live t′ l′)
 done-at z q e m v w g t l y {x = x} {o = o} h j b i k =
     let same : o ≡ owner (tables z q e v w g) (live t l) y = rw (owner-reads z q e v w g t l y) at i ∙ owner-is (tables z q e v w g) m (live t l) y h j b in
     handled (tables z q e v w g) m (live t l) y h
-    (k ∙ actBy-reads (tables z [] [] v [] []) (tables z q e v w g) refl o (x .effect) (live t l) ∙ rw (same, ap (λ (u : Outcome). u .effect) h))
+    (k ∙ actBy-reads (withPeers v) (tables z q e v w g) refl o (x .effect) (live t l) ∙ rw (same, ap (λ (u : Outcome). u .effect) h))

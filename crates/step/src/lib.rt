@@ -1,6 +1,5 @@
 // One request on any tables: its answer, and its effect done. Only state and interrupts are written.
 use decision::decide;
-use decision::owner;
 use endpoints;
 use freeze;
 use interrupts;
@@ -10,22 +9,23 @@ use kinds::number::PeNumber;
 use kinds::outcome::Effect;
 use kinds::record::Sizes;
 use kinds::request::Request;
+use owners;
+use peers;
 ghost use mathlib.Core.Path.{_≡_};
-ghost use mathlib.Core.List.{[]};
 ghost use Rattle.profile.specs.Step.{act, actBy};
-ghost use Rattle.decision.specs.Tables.{tables, live};
-ghost use Rattle.step.specs.Promise.{isKeep, Handled};
+ghost use Rattle.sizes.specs.Tables.{tables, live};
+ghost use Rattle.step.specs.Promise.{withPeers, isKeep, Handled};
 
 // An effect at a PE.
 fn act_at(peers: &[u64], interrupts: &mut [u64], state: &mut [u64], pe: PeNumber, effect: Effect)
-    ensures { λ r. ⌜ live (now (state .exit)) (now (interrupts .exit)) ≡ act (tables (record { pes = 0; interrupts = 0; requesters = 0 }) [] [] (now (peers .entry)) [] []) pe effect (live (now (state .entry)) (now (interrupts .entry))) ⌝ }
+    ensures { λ r. ⌜ live (now (state .exit)) (now (interrupts .exit)) ≡ act (withPeers (now (peers .entry))) pe effect (live (now (state .entry)) (now (interrupts .entry))) ⌝ }
 {
     match effect {
         Effect::Keep => {
             return;
         }
         Effect::Freeze { reason, value } => {
-            let vector = freeze::peer_vector(peers, pe);
+            let vector = peers::peer_vector(peers, pe);
             freeze::freeze(state, vector, pe, reason, value);
             return;
         }
@@ -64,15 +64,8 @@ fn keeps(effect: Effect) -> bool
 }
 
 // An effect at the owner of its request.
-fn act_by(
-    sizes: Sizes,
-    peers: &[u64],
-    interrupts: &mut [u64],
-    state: &mut [u64],
-    owner: Owner,
-    effect: Effect,
-)
-    ensures { λ r. ⌜ live (now (state .exit)) (now (interrupts .exit)) ≡ actBy (tables sizes [] [] (now (peers .entry)) [] []) owner effect (live (now (state .entry)) (now (interrupts .entry))) ⌝ }
+fn act_by(peers: &[u64], interrupts: &mut [u64], state: &mut [u64], owner: Owner, effect: Effect)
+    ensures { λ r. ⌜ live (now (state .exit)) (now (interrupts .exit)) ≡ actBy (withPeers (now (peers .entry))) owner effect (live (now (state .entry)) (now (interrupts .entry))) ⌝ }
 {
     match owner {
         Owner::Of(pe) => {
@@ -116,7 +109,7 @@ pub fn handle(
     if keeps(effect) {
         return outcome.answer;
     }
-    let owner = owner::owner_of(sizes, requesters, interrupts, windows, segments, request);
-    act_by(sizes, peers, interrupts, state, owner, effect);
+    let owner = owners::owner_of(sizes, requesters, interrupts, windows, segments, request);
+    act_by(peers, interrupts, state, owner, effect);
     outcome.answer
 }

@@ -8,12 +8,13 @@ use Prim.Native.Nat.{ℕ}
 use Prim.Native.String.{String}
 use Rattle.fields.specs.Bytes.{bytes}
 use Rattle.fields.specs.Field.{fieldsOf, numberFrom, numberOf, only, is}
-use Rattle.lines.specs.Line.{field, final, numbers, sized, dma, lineOf}
-use Rattle.lines.specs.Word.{find}
+use Rattle.line_text.specs.Line.{field, final, numbers, sized, dma, lineOf}
+use Rattle.line_text.specs.Word.{find}
 use Rattle.profile.specs.Opened.{opened}
 use Rattle.names.specs.Name.{nameOf}
 use Rattle.report.specs.Text.{digits, placesFrom, headOf, tailOf}
-use Rattle.session.specs.Session.{tableOf, fits, storedIn, replyTo, afterLine}
+use Rattle.tables_in_use.specs.Tables.{tableOf, fits, storedIn}
+use Rattle.session.specs.Session.{replyTo, afterLine}
 use Rattle.stream.specs.Replay.{linesFrom, answers, output}
 
 pub printed :

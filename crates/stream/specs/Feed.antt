@@ -14,10 +14,10 @@ use lib.Dec.{ltb, leb, eqb}
 use lib.ListN.{length}
 use lib.Seq.{sets}
 use Rattle.kinds.specs.declared.record.Lengths.{Lengths}
-use Rattle.lines.specs.Line.{lineOf}
+use Rattle.line_text.specs.Line.{lineOf}
 use Rattle.report.specs.Text.{lineMost}
-use Rattle.session.specs.Lent.{roomFor}
-use Rattle.stream.specs.Replay.{lineFeed}
+use Rattle.tables_in_use.specs.Lent.{roomFor}
+use Rattle.fields.specs.Bytes.{lineFeed}
 use Rattle.stream.specs.Stream.{Stream, fed, said}
 
 -- the count of output lines has 64 bits

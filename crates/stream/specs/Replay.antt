@@ -9,14 +9,13 @@ use mathlib.Core.List.{List, [], _∷_, _++_}
 use Prim.Native.Nat.{ℕ, _+_}
 use lib.Dec.{eqb}
 use lib.ListN.{length}
-use Rattle.lines.specs.Line.{lineOf}
+use Rattle.fields.specs.Bytes.{lineFeed}
+use Rattle.line_text.specs.Line.{lineOf}
 use Rattle.report.specs.Text.{header, answerLine}
-use Rattle.session.specs.Session.{Session, start, replyTo, afterLine}
-use Rattle.session.specs.declared.Reply.{Reply}
-use Rattle.session.specs.declared.Reply.the-variants.{Silent, Says, NoRoom}
-
-abbrev pub lineFeed : ℕ
-lineFeed = 10
+use Rattle.tables_in_use.specs.Tables.{Session, start}
+use Rattle.session.specs.Session.{replyTo, afterLine}
+use Rattle.tables_in_use.specs.declared.Reply.{Reply}
+use Rattle.tables_in_use.specs.declared.Reply.the-variants.{Silent, Says, NoRoom}
 
 unfoldable pub linesFrom : List ℕ → List ℕ → List (List ℕ)
 linesFrom p [] = cond (eqb (length p) 0) [] (p ∷ [])

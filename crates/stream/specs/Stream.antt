@@ -14,10 +14,12 @@ use mathlib.Core.List.{List, [], _∷_, _++_}
 use Prim.Native.Nat.{ℕ, suc}
 use lib.Dec.{ltb, eqb}
 use lib.ListN.{length}
-use Rattle.lines.specs.Line.{lineOf}
-use Rattle.session.specs.Session.{Session, start, replyTo, afterLine}
-use Rattle.session.specs.declared.Reply.{Reply}
-use Rattle.stream.specs.Replay.{lineFeed, textOf, countAfter}
+use Rattle.line_text.specs.Line.{lineOf}
+use Rattle.tables_in_use.specs.Tables.{Session, start}
+use Rattle.session.specs.Session.{replyTo, afterLine}
+use Rattle.tables_in_use.specs.declared.Reply.{Reply}
+use Rattle.fields.specs.Bytes.{lineFeed}
+use Rattle.stream.specs.Replay.{textOf, countAfter}
 
 pub record Stream : Type 0 where
   pub pending : List ℕ

@@ -1,3 +1,3 @@
-mod DmaNeeds
-mod TurnNeeds
-mod WalkNeeds
+mod TranslateLaws
+mod StepLaws
+mod WalkLaws

@@ -13,10 +13,10 @@ use Rattle.kinds.specs.declared.record.TranslationEntry.{TranslationEntry}
 use Rattle.kinds.specs.declared.request.Direction.{Direction}
 use Rattle.profile.specs.Entry.{offset}
 use Rattle.profile.specs.Walk.{walk, arrive}
-use Rattle.entries.specs.declared.ask.Asked.{Asked}
-use Rattle.entries.specs.declared.ask.Asked.the-variants.{Walk, Bypass, BadEntry, OutsideWindow}
+use Rattle.entries.specs.declared.ask.Way.{Way}
+use Rattle.entries.specs.declared.ask.Way.the-variants.{Walk, Bypass, BadEntry, OutsideWindow}
 
-abbrev pub finished : List ℕ → TranslationEntry → PeNumber → Direction → ByteAddress → Asked → Outcome
+abbrev pub finished : List ℕ → TranslationEntry → PeNumber → Direction → ByteAddress → Way → Outcome
 finished m e p d a (Walk s) = arrive s d p a (walk m e (pageNumber s (offset a)))
 finished m e p d a Bypass = passed p (offset a) 0
 finished m e p d a BadEntry = failed reason.BadEntry a 0

@@ -1,3 +1,3 @@
 // The translation of a DMA: the walk of a page table, and what the DMA comes to by its entry.
-pub mod dma;
+pub mod translate;
 mod walk;

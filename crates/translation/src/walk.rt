@@ -1,15 +1,15 @@
 // The walk of a page table.
+use kinds::lookup::Found;
+use kinds::number::ByteAddress;
+use kinds::number::PageNumber;
+use kinds::record::TranslationEntry;
+use page_tables::aligned;
+use profile::limits::CODE_BITS;
 ghost use mathlib.Core.Path.{_≡_};
 ghost use Prim.Native.Nat.{_*_, _<_, _≤_};
 ghost use Rattle.profile.specs.Walk.{place, nextBase, walk};
 ghost use Rattle.entries.specs.Ask.{Shaped};
 ghost use Rattle.translation.specs.Turn.{next, stepped, counted};
-use entries::shape::CODE_BITS;
-use entries::shape::aligned;
-use kinds::lookup::Found;
-use kinds::number::ByteAddress;
-use kinds::number::PageNumber;
-use kinds::record::TranslationEntry;
 
 // What a walk found, and the count of words that it read.
 pub(crate) struct Walked {

@@ -2,9 +2,10 @@
 use kinds::lookup::Hit;
 use kinds::number::ByteAddress;
 use kinds::record::Window;
-use kinds::words;
 use open_windows::m32_open;
 use open_windows::m64_open;
+use profile::limits;
+use words;
 ghost use mathlib.Core.Path.{_≡_};
 ghost use mathlib.Core.Bool.{true};
 ghost use Prim.Native.Nat.{_+_, _-_, _<_, _≤_};
@@ -12,17 +13,18 @@ ghost use lib.Dec.{ltb};
 ghost use Rattle.kinds.specs.declared.lookup.Hit.the-variants.{At};
 ghost use Rattle.kinds.specs.Words.{at};
 ghost use Rattle.open_windows.specs.Size.{WindowSize};
-ghost use Rattle.profile.specs.Windows.{covers, segmentOf, m64Pe, window, m64From, route};
+ghost use Rattle.profile.specs.Windows.{m64Count, covers, segmentOf, m64Pe, window, m64From, route};
 ghost use Rattle.windows.specs.Takes.{m32Takes, m64Takes};
 
 // A window has 2^8 segments.
 const SEGMENT_BITS: u32 = 8;
+
 // The M64 windows: their number, and their places in the table.
-const M64_COUNT: usize = 16;
+const M64_COUNT: usize = limits::M64_COUNT as usize;
 
-const M64_FIRST: usize = 3;
+const M32_WORDS: usize = limits::M32_WORDS as usize;
 
-const M64_WORDS: usize = 4;
+const M64_WORDS: usize = limits::M64_WORDS as usize;
 
 // The place is before the end of the window. The end itself is not computed: it may be 2^64.
 fn before_end(base: u64, size: u64, place: u64) -> bool
@@ -73,26 +75,26 @@ fn m32_hit(segments: &[u16], base: u64, size: u64, pci: u64, address: ByteAddres
 
 // M64 window k of the table.
 fn m64_at(windows: &[u64], k: usize) -> Window
-    requires { ⌜ k < 16 ⌝ }
+    requires { ⌜ k < m64Count ⌝ }
     ensures { λ r. ⌜ r ≡ window (now (windows .entry)) k ⌝ }
 {
     let row = k * M64_WORDS;
     Window {
-        base: words::word(windows, M64_FIRST + row),
-        size: words::word(windows, M64_FIRST + (row + 1)),
-        mode: words::word(windows, M64_FIRST + (row + 2)),
-        pe: words::word(windows, M64_FIRST + (row + 3)),
+        base: words::word(windows, M32_WORDS + row),
+        size: words::word(windows, M32_WORDS + (row + 1)),
+        mode: words::word(windows, M32_WORDS + (row + 2)),
+        pe: words::word(windows, M32_WORDS + (row + 3)),
     }
 }
 
 // M64 window k is open and covers the address. Of a window that does not cover it, two words are read.
 fn m64_takes(windows: &[u64], k: usize, address: ByteAddress) -> bool
-    requires { ⌜ k < 16 ⌝ }
+    requires { ⌜ k < m64Count ⌝ }
     ensures { λ r. ⌜ r ≡ m64Takes (window (now (windows .entry)) k) address ⌝ }
 {
     let row = k * M64_WORDS;
-    let base = words::word(windows, M64_FIRST + row);
-    let size = words::word(windows, M64_FIRST + (row + 1));
+    let base = words::word(windows, M32_WORDS + row);
+    let size = words::word(windows, M32_WORDS + (row + 1));
     if covering(base, size, address) {
         return m64_open(m64_at(windows, k));
     }
@@ -111,7 +113,7 @@ fn m64_pe(window: Window, address: ByteAddress) -> u64
 
 // The first of the M64 windows that takes the address. An M64 window keeps it.
 fn m64_route(windows: &[u64], address: ByteAddress) -> Hit
-    ensures { λ r. ⌜ r ≡ m64From (now (windows .entry)) 16 0 address ⌝ }
+    ensures { λ r. ⌜ r ≡ m64From (now (windows .entry)) m64Count 0 address ⌝ }
 {
     let mut left = M64_COUNT;
     while 0 < left {

@@ -1,5 +1,5 @@
 -- `addresses::class_of` meets its contract. Assumes nothing.
-use Rattle.addresses.proofs.AddressNeeds as laws
+use Rattle.addresses.proofs.AddressLaws as laws
 use borrow.Author.Needs.{needs}
 use Rattle.addresses.proofs.class_of.Statement.{statement}
 use Rattle.addresses.proofs.class_of.Tie as tie

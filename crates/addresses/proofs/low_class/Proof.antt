@@ -1,6 +1,6 @@
 -- `addresses::low_class` meets its contract. Assumes nothing.
 use native.Mathlib.Omega.{arith}
-use Rattle.addresses.proofs.AddressNeeds as laws
+use Rattle.addresses.proofs.AddressLaws as laws
 use Rattle.addresses.proofs.low_class.Statement.{statement}
 use Rattle.addresses.proofs.low_class.Tie as tie
 

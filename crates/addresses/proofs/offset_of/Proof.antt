@@ -1,5 +1,5 @@
 -- `addresses::offset_of` meets its contract. Assumes nothing.
-use Rattle.addresses.proofs.AddressNeeds as laws
+use Rattle.addresses.proofs.AddressLaws as laws
 use Rattle.addresses.proofs.offset_of.Statement.{statement}
 use Rattle.addresses.proofs.offset_of.Tie as tie
 

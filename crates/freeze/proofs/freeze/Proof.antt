@@ -28,11 +28,11 @@ loop-holds c = (omega arith, refl, unfold turns in refl)
 mul-loop : tie.Need-mul-loop Inv-loop μ-loop
 mul-loop c = search needs
 
-slice-aggregate-is-peer : tie.Need-slice-aggregate-is-peer Inv-loop μ-loop
-slice-aggregate-is-peer c = search needs
+slice-aggregate-is-listed : tie.Need-slice-aggregate-is-listed Inv-loop μ-loop
+slice-aggregate-is-listed c = search needs
 
-is-peer-requires : tie.Need-is-peer-requires Inv-loop μ-loop
-is-peer-requires c κs = search needs
+is-listed-requires : tie.Need-is-listed-requires Inv-loop μ-loop
+is-listed-requires c κs = search needs
 
 turn-requires : tie.Need-turn-requires Inv-loop μ-loop
 turn-requires c κs = search needs
@@ -61,8 +61,8 @@ freeze-spec =
     reason-number-requires
     loop-holds
     mul-loop
-    slice-aggregate-is-peer
-    is-peer-requires
+    slice-aggregate-is-listed
+    is-listed-requires
     turn-requires
     add-k
     loop-less

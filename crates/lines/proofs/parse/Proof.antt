@@ -1,5 +1,5 @@
 -- `lines::parse` meets its contract. Assumes nothing.
-use Rattle.lines.proofs.FormLaws as laws
+use Rattle.line_text.specs.FormLaws as laws
 use borrow.Author.Needs.{needs}
 use Rattle.lines.proofs.parse.Statement.{statement}
 use Rattle.lines.proofs.parse.Tie as tie

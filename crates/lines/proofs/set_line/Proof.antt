@@ -1,5 +1,6 @@
 -- `lines::set_line` meets its contract. Assumes nothing.
-use Rattle.lines.proofs.FormLaws as laws
+use Rattle.name_fields.specs.ReadLaws as laws
+use Rattle.table_fields.specs.TablePlaceLaws as tables
 use borrow.Author.Needs.{needs}
 use Rattle.lines.proofs.set_line.Statement.{statement}
 use Rattle.lines.proofs.set_line.Tie as tie
@@ -14,7 +15,7 @@ enum-told : tie.Need-enum-told
 enum-told c = search needs
 
 returns : tie.Need-returns
-returns c = search laws.follows depth 8
+returns c = search (tables.follows, laws.follows) depth 8
 
 last-numbers-requires : tie.Need-last-numbers-requires
 last-numbers-requires c κs = search needs
@@ -26,10 +27,10 @@ enum-told-2 : tie.Need-enum-told-2
 enum-told-2 c = search needs
 
 returns-2 : tie.Need-returns-2
-returns-2 c = search laws.follows depth 8
+returns-2 c = search (tables.follows, laws.follows) depth 8
 
 returns-3 : tie.Need-returns-3
-returns-3 c = search laws.follows depth 8
+returns-3 c = search (tables.follows, laws.follows) depth 8
 
 pub set-line-spec : {M : Type 1} → statement M
 set-line-spec =

@@ -1,5 +1,5 @@
 -- `lines::size_line` meets its contract. Assumes nothing.
-use Rattle.lines.proofs.FormLaws as laws
+use Rattle.name_fields.specs.ReadLaws as laws
 use borrow.Author.Needs.{needs}
 use Rattle.lines.proofs.size_line.Statement.{statement}
 use Rattle.lines.proofs.size_line.Tie as tie

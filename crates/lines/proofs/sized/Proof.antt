@@ -1,5 +1,5 @@
 -- `lines::sized` meets its contract. Assumes nothing.
-use Rattle.lines.specs.Line.{sized}
+use Rattle.line_text.specs.Line.{sized}
 use Rattle.kinds.specs.Tests.{tests}
 use Rattle.lines.proofs.sized.Statement.{statement}
 use Rattle.lines.proofs.sized.Tie as tie

@@ -1,7 +1,5 @@
 -- `names::name_length` meets its contract. Assumes nothing.
-use Rattle.names.specs.Name.{nameOf, padded}
 use Rattle.names.proofs.Laws as laws
-use borrow.Author.Needs.{needs}
 use Rattle.names.proofs.name_length.Statement.{statement}
 use Rattle.names.proofs.name_length.Tie as tie
 

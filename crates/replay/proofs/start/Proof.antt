@@ -1,6 +1,6 @@
 -- `replay::start` meets its contract. Assumes nothing.
 use mathlib.Core.Path.{refl}
-use Rattle.stream.specs.Whole.{whole}
+use Rattle.stream.specs.WholeLaws.{whole}
 use Rattle.replay.proofs.start.Statement.{statement}
 use Rattle.replay.proofs.start.Tie as tie
 

@@ -5,11 +5,11 @@ use Rattle.replay_main.proofs.main.Statement.{statement}
 use Rattle.replay_main.proofs.main.Tie as tie
 
 abbrev Inv-loop : tie.InvT-loop
-Inv-loop requesters₀ entries₀ memory₀ peers₀ interrupts₀ windows₀ segments₀ state₀ line₀ out₀ progress₀ pieces₀ requesters entries memory peers interrupts windows segments state line out progress pieces =
+Inv-loop requesters₀ entries₀ memory₀ peers₀ interrupts₀ windows₀ segments₀ state₀ line₀ out₀ progress₀ ended₀ pieces₀ requesters entries memory peers interrupts windows segments state line out progress ended pieces =
     0 ≤ pieces
 
 abbrev μ-loop : tie.MeasureT-loop
-μ-loop requesters₀ entries₀ memory₀ peers₀ interrupts₀ windows₀ segments₀ state₀ line₀ out₀ progress₀ pieces₀ requesters entries memory peers interrupts windows segments state line out progress pieces =
+μ-loop requesters₀ entries₀ memory₀ peers₀ interrupts₀ windows₀ segments₀ state₀ line₀ out₀ progress₀ ended₀ pieces₀ requesters entries memory peers interrupts windows segments state line out progress ended pieces =
     pieces
 
 start-requires : tie.Need-start-requires Inv-loop μ-loop
@@ -24,6 +24,9 @@ loop-holds c = search needs
 piece-requires : tie.Need-piece-requires Inv-loop μ-loop
 piece-requires c κs = search needs
 
+enum-known-next : tie.Need-enum-known-next Inv-loop μ-loop
+enum-known-next c = search needs
+
 sub-pieces : tie.Need-sub-pieces Inv-loop μ-loop
 sub-pieces c = search needs
 
@@ -33,17 +36,32 @@ loop-less c = search needs
 loop-again : tie.Need-loop-again Inv-loop μ-loop
 loop-again c = search needs
 
+enum-told : tie.Need-enum-told Inv-loop μ-loop
+enum-told c = search needs
+
 loop-less-2 : tie.Need-loop-less-2 Inv-loop μ-loop
 loop-less-2 c = search needs
 
 loop-again-2 : tie.Need-loop-again-2 Inv-loop μ-loop
 loop-again-2 c = search needs
 
+enum-told-2 : tie.Need-enum-told-2 Inv-loop μ-loop
+enum-told-2 c = search needs
+
+loop-less-3 : tie.Need-loop-less-3 Inv-loop μ-loop
+loop-less-3 c = search needs
+
+loop-again-3 : tie.Need-loop-again-3 Inv-loop μ-loop
+loop-again-3 c = search needs
+
 last-requires : tie.Need-last-requires Inv-loop μ-loop
 last-requires c κs = search needs
 
 returns : tie.Need-returns Inv-loop μ-loop
 returns c = search needs
+
+returns-2 : tie.Need-returns-2 Inv-loop μ-loop
+returns-2 c = search needs
 
 pub main-spec : {M : Type 1} → statement M
 main-spec =
@@ -55,10 +73,16 @@ main-spec =
     write-header-requires
     loop-holds
     piece-requires
+    enum-known-next
     sub-pieces
     loop-less
     loop-again
+    enum-told
     loop-less-2
     loop-again-2
+    enum-told-2
+    loop-less-3
+    loop-again-3
     last-requires
-    returns)
+    returns
+    returns-2)

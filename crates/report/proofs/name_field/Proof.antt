@@ -19,16 +19,13 @@ slice-aggregate-put c = search (needs, laws.letters-count)
 put-requires : tie.Need-put-requires
 put-requires c κs = search laws.letters-room
 
-put-byte-requires : tie.Need-put-byte-requires
-put-byte-requires c κs = search laws.tab-room
-
 same-length : tie.Need-same-length
 same-length c = search needs
 
 returns : tie.Need-returns
-returns c = search (laws.name-ended, laws.name-past, laws.name-within)
+returns c = search laws.name-wrote
 
 pub name-field-spec : {M : Type 1} → statement M
 name-field-spec =
     tie.close
-    (tie.spec name-bytes-requires name-length-requires array-share-prefix-text slice-aggregate-put put-requires put-byte-requires same-length returns)
+    (tie.spec name-bytes-requires name-length-requires array-share-prefix-text slice-aggregate-put put-requires same-length returns)

@@ -10,10 +10,10 @@ use Rattle.report.proofs.put.Statement.{statement}
 use Rattle.report.proofs.put.Tie as tie
 
 abbrev Inv-loop : tie.InvT-loop
-Inv-loop out₀ at text i₀ out i = (i ≤ length text) × (length out ≡ length out₀) × (sets out (at + i) (drop i text) ≡ sets out₀ at text)
+Inv-loop out₀ at text end i₀ out i = (i ≤ length text) × (length out ≡ length out₀) × (sets out (at + i) (drop i text) ≡ sets out₀ at text)
 
 abbrev μ-loop : tie.MeasureT-loop
-μ-loop out₀ at text i₀ out i = length text - i
+μ-loop out₀ at text end i₀ out i = length text - i
 
 loop-holds : tie.Need-loop-holds Inv-loop μ-loop
 loop-holds c = search (needs, laws.put-start)
@@ -36,14 +36,23 @@ loop-less c = search needs
 loop-again : tie.Need-loop-again Inv-loop μ-loop
 loop-again c = (search needs, simp length-set (omega arith), search laws.put-turn)
 
+add-out-2 : tie.Need-add-out-2 Inv-loop μ-loop
+add-out-2 c = search needs
+
+slice-write-out-2 : tie.Need-slice-write-out-2 Inv-loop μ-loop
+slice-write-out-2 c = search needs
+
 add-result : tie.Need-add-result Inv-loop μ-loop
 add-result c = search needs
+
+add-result-2 : tie.Need-add-result-2 Inv-loop μ-loop
+add-result-2 c = search needs
 
 same-length : tie.Need-same-length Inv-loop μ-loop
 same-length c = search needs
 
 returns : tie.Need-returns Inv-loop μ-loop
-returns c = search (needs, laws.put-end)
+returns c = search laws.put-end
 
 pub put-spec : {M : Type 1} → statement M
 put-spec =
@@ -58,6 +67,9 @@ put-spec =
     add-i
     loop-less
     loop-again
+    add-out-2
+    slice-write-out-2
     add-result
+    add-result-2
     same-length
     returns)

@@ -8,13 +8,13 @@ put-head-requires : tie.Need-put-head-requires
 put-head-requires c κs = search needs
 
 put-tail-requires : tie.Need-put-tail-requires
-put-tail-requires c κs = search needs
+put-tail-requires c κs = search laws.tail-free
 
 same-length : tie.Need-same-length
 same-length c = search needs
 
 returns : tie.Need-returns
-returns c = search (laws.sets-then, laws.past-then)
+returns c = search laws.wrote-then
 
 pub put-line-spec : {M : Type 1} → statement M
 put-line-spec = tie.close (tie.spec put-head-requires put-tail-requires same-length returns)

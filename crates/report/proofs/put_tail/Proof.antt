@@ -7,8 +7,8 @@ use Rattle.report.proofs.put_tail.Tie as tie
 decimal-field-requires : tie.Need-decimal-field-requires
 decimal-field-requires c κs = search needs
 
-value-field-requires : tie.Need-value-field-requires
-value-field-requires c κs = search needs
+hexadecimal-field-requires : tie.Need-hexadecimal-field-requires
+hexadecimal-field-requires c κs = search needs
 
 decimal-field-requires-2 : tie.Need-decimal-field-requires-2
 decimal-field-requires-2 c κs = search needs
@@ -17,14 +17,14 @@ same-length : tie.Need-same-length
 same-length c = search needs
 
 returns : tie.Need-returns
-returns c = search (laws.tail-whole, laws.tail-past)
+returns c = search laws.tail-wrote
 
 pub put-tail-spec : {M : Type 1} → statement M
 put-tail-spec =
     tie.close
     (tie.spec
     decimal-field-requires
-    value-field-requires
+    hexadecimal-field-requires
     decimal-field-requires-2
     same-length
     returns)

@@ -1,17 +1,18 @@
 -- `report::write_header` meets its contract. Assumes nothing.
 use Rattle.report.proofs.Laws as laws
+use Rattle.digits.specs.RoomLaws as room
 use borrow.Author.Needs.{needs}
 use Rattle.report.proofs.write_header.Statement.{statement}
 use Rattle.report.proofs.write_header.Tie as tie
 
 returns : tie.Need-returns
-returns c = search (laws.short-placed, laws.short-written)
+returns c = search (laws.not-placed, room.not-written, room.room-short)
 
 sub-if2 : tie.Need-sub-if2
 sub-if2 c = search needs
 
 returns-2 : tie.Need-returns-2
-returns-2 c = search (laws.late-placed, laws.late-written)
+returns-2 c = search (laws.not-placed, room.not-written, room.room-late)
 
 slice-aggregate-put : tie.Need-slice-aggregate-put
 slice-aggregate-put c = search needs
@@ -23,7 +24,7 @@ same-length : tie.Need-same-length
 same-length c = search needs
 
 returns-3 : tie.Need-returns-3
-returns-3 c = search (needs, laws.placed-to, laws.text-written)
+returns-3 c = search (needs, laws.text-placed, room.text-written)
 
 pub write-header-spec : {M : Type 1} → statement M
 write-header-spec =

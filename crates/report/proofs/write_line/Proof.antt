@@ -1,18 +1,19 @@
 -- `report::write_line` meets its contract. Assumes nothing.
 use Rattle.report.proofs.Laws as laws
 use Rattle.report.specs.TextLaws.{line-most}
+use Rattle.digits.specs.RoomLaws as room
 use borrow.Author.Needs.{needs}
 use Rattle.report.proofs.write_line.Statement.{statement}
 use Rattle.report.proofs.write_line.Tie as tie
 
 returns : tie.Need-returns
-returns c = search (laws.short-placed, laws.short-written)
+returns c = search (laws.not-placed, room.not-written, room.room-short)
 
 sub-if2 : tie.Need-sub-if2
 sub-if2 c = search needs
 
 returns-2 : tie.Need-returns-2
-returns-2 c = search (laws.late-placed, laws.late-written)
+returns-2 c = search (laws.not-placed, room.not-written, room.room-late)
 
 put-line-requires : tie.Need-put-line-requires
 put-line-requires c κs = search needs
@@ -21,7 +22,7 @@ same-length : tie.Need-same-length
 same-length c = search needs
 
 returns-3 : tie.Need-returns-3
-returns-3 c = search (laws.placed-to, laws.text-written, line-most)
+returns-3 c = search (laws.text-placed, room.text-written, line-most)
 
 pub write-line-spec : {M : Type 1} → statement M
 write-line-spec =

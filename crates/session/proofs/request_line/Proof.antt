@@ -2,7 +2,7 @@
 use denote.Ref.{now}
 use native.Mathlib.Omega.{arith}
 use Rattle.session.proofs.RequestLaws as laws
-use Rattle.session.proofs.TableLaws.{part-length}
+use Rattle.session.proofs.PartLaws.{part-length}
 use borrow.Author.Needs.{needs}
 use Rattle.session.proofs.request_line.Statement.{statement}
 use Rattle.session.proofs.request_line.Tie as tie

@@ -5,17 +5,18 @@ use Prim.Native.Nat.{_-_, _*_, _≤_}
 use native.Mathlib.Omega.{arith}
 use lib.ListN.{length}
 use borrow.Author.Needs.{needs}
-use Rattle.bridge.specs.Run.{ran, ranTo}
-use Rattle.decision.specs.Tables.{tables, live}
+use Rattle.layout.specs.Layout.{requestWords, answerWords}
+use Rattle.runs.specs.Run.{runState, ranTo}
+use Rattle.sizes.specs.Tables.{tables, live}
 use Rattle.bridge.proofs.RunLaws as laws
 use Rattle.bridge.proofs.run.run.Statement.{statement}
 use Rattle.bridge.proofs.run.run.Tie as tie
 
 abbrev Inv-loop : tie.InvT-loop
 Inv-loop sizes requesters entries memory peers interrupts₀ windows segments state₀ requests answers₀ count k₀ interrupts state answers k =
-    (k ≤ count) × (count * 8 ≤ length requests) × (count * 8 ≤ length answers₀) × (length interrupts ≡ length interrupts₀) × (length state ≡ length state₀)
+    (k ≤ count) × (count * requestWords ≤ length requests) × (count * answerWords ≤ length answers₀) × (length interrupts ≡ length interrupts₀) × (length state ≡ length state₀)
     × (length answers ≡ length answers₀)
-    × (ran state interrupts answers ≡ ranTo (tables sizes requesters entries peers windows segments) memory requests (live state₀ interrupts₀) answers₀ k)
+    × (runState state interrupts answers ≡ ranTo (tables sizes requesters entries peers windows segments) memory requests (live state₀ interrupts₀) answers₀ k)
 
 abbrev μ-loop : tie.MeasureT-loop
 μ-loop sizes requesters entries memory peers interrupts₀ windows segments state₀ requests answers₀ count k₀ interrupts state answers k =

@@ -4,9 +4,6 @@ use borrow.Author.Needs.{needs}
 use Rattle.bridge.proofs.run.serve.Statement.{statement}
 use Rattle.bridge.proofs.run.serve.Tie as tie
 
-mul-at : tie.Need-mul-at
-mul-at c = search needs
-
 request-at-requires : tie.Need-request-at-requires
 request-at-requires c κs = search needs
 
@@ -32,7 +29,6 @@ pub serve-spec : {M : Type 1} → statement M
 serve-spec =
     tie.close
     (tie.spec
-    mul-at
     request-at-requires
     reply-requires
     write-answer-requires

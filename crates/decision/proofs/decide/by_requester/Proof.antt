@@ -1,5 +1,6 @@
 -- `decision::decide::by_requester` meets its contract. Assumes nothing.
 use Rattle.profile.specs.Owner.{owner}
+use Rattle.firmware_requests.specs.PromiseLaws as promise
 use Rattle.decision.proofs.DecideLaws as laws
 use borrow.Author.Needs.{needs}
 use Rattle.decision.proofs.decide.by_requester.Statement.{statement}
@@ -25,7 +26,7 @@ refused-requires c κs = search needs
 
 returns-2 : tie.Need-returns-2
 unfolding owner
-returns-2 c = search laws.of-nobody
+returns-2 c = search promise.of-nobody
 
 pub by-requester-spec : {M : Type 1} → statement M
 by-requester-spec =

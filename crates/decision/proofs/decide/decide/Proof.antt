@@ -11,7 +11,7 @@ is-formed-requires : tie.Need-is-formed-requires
 is-formed-requires c κs = search needs
 
 settle-requires : tie.Need-settle-requires
-settle-requires c κs = search (laws.sizes-good, laws.form-good)
+settle-requires c κs = search laws.form-good
 
 returns : tie.Need-returns
 returns c = search laws.decided-settled

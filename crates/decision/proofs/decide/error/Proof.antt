@@ -1,7 +1,7 @@
 -- `decision::decide::error` meets its contract. Assumes nothing.
 use Rattle.profile.specs.Step.{ask, finish}
 use Rattle.profile.specs.Owner.{owner}
-use Rattle.decision.proofs.DecideLaws as laws
+use Rattle.firmware_requests.specs.PromiseLaws as promise
 use borrow.Author.Needs.{needs}
 use Rattle.decision.proofs.decide.error.Statement.{statement}
 use Rattle.decision.proofs.decide.error.Tie as tie
@@ -17,7 +17,7 @@ done-requires c κs = search needs
 
 returns : tie.Need-returns
 unfolding owner ask finish
-returns c = search laws.of-owner
+returns c = search promise.of-owner
 
 enum-known-reason : tie.Need-enum-known-reason
 enum-known-reason c = search needs
@@ -27,7 +27,7 @@ refused-requires c κs = search needs
 
 returns-2 : tie.Need-returns-2
 unfolding owner
-returns-2 c = search laws.of-nobody
+returns-2 c = search promise.of-nobody
 
 pub error-spec : {M : Type 1} → statement M
 error-spec =

@@ -1,7 +1,7 @@
 -- `groups::closed::any_outsider_lists` meets its contract. The invariant: none of the numbers passed is found. The measure is how many are left. Assumes nothing.
 use Rattle.groups.specs.Group.{outsiderLists}
-use Rattle.footprint.specs.Any.{any}
-use Rattle.footprint.specs.AnyLaws.{any-found, any-next, any-done}
+use Rattle.members.specs.Any.{any}
+use Rattle.members.specs.AnyLaws.{any-found, any-next, any-done}
 use Prim.Native.Nat.{_≤_}
 use mathlib.Core.Path.{_≡_}
 use borrow.Author.Needs.{needs}

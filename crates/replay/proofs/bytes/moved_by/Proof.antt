@@ -4,14 +4,14 @@ use borrow.Author.Needs.{needs}
 use Rattle.replay.proofs.bytes.moved_by.Statement.{statement}
 use Rattle.replay.proofs.bytes.moved_by.Tie as tie
 
-add-t5 : tie.Need-add-t5
-add-t5 c = search needs
+add-t6 : tie.Need-add-t6
+add-t6 c = search needs
 
 returns : tie.Need-returns
-returns c = search laws.moved-went
+returns c = search laws.moved-on
 
 returns-2 : tie.Need-returns-2
 returns-2 c = search laws.moved-stays
 
 pub moved-by-spec : {M : Type 1} → statement M
-moved-by-spec = tie.close (tie.spec add-t5 returns returns-2)
+moved-by-spec = tie.close (tie.spec add-t6 returns returns-2)

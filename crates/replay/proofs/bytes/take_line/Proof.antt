@@ -12,7 +12,10 @@ end-line-requires : tie.Need-end-line-requires
 end-line-requires c κs = search needs
 
 moved-by-requires : tie.Need-moved-by-requires
-moved-by-requires c κs = omega (arith, c .before .before .before .before .before .before .before .before .before .before .before .before .before .before .before .before .before .before .before .before .before .before .before .before .before .before .before .before .before .if1 .taken, c .before .before .before .before .before .before .before .before .before .before .before .before .before .before .before .before .before .before .before .before .before .before .before .before .before .before .before .before .before .before .before .before .before .before .before .before .before .before .before .before .before .before .before .before .before .before .good .1 .1 .1 .1 .1 .1 .1 .1 .1 .1 .0 .1)
+moved-by-requires c κs =
+    let tested = c .before .before .before .before .before .before .before .before .before .before .before .before .before .before .before .before .before .before .before .before .before .before .before .before .before .before .before .before .before in
+    let entry = tested .before .before .before .before .before .before .before .before .before .before .before .before .before .before .before .before .before in
+    omega (arith, tested .if1 .taken, entry .good .1 .1 .1 .1 .1 .1 .1 .1 .1 .1 .0 .1)
 
 same-length : tie.Need-same-length
 same-length c = search needs
@@ -46,17 +49,23 @@ same-length-10 c = search needs
 
 returns : tie.Need-returns
 returns c =
-    let call = c .before .before .before .before .before .before .before .before .before .before .before .before .before .before .before .before .before .before .before .end-line .ensures in
-    let kept = c .before .before .before .before .before .before .before .before .before .before .before .before .before .before .before .before .before .before .before .before .before .before .before .before .before .before .before .before .before .before .before .before .before .before .keep .ensures in
-    rw (c .moved-by .ensures) (laws.moved-feed _ _ _ _ _ kept (c .before .before .before .before .before .before .before .before .before .before .before .before .before .before .before .before .before .before .before .before .before .before .before .before .before .before .before .before .before .before .before .before .before .before .before .before .before .before .before .before .before .before .before .before .before .before .before .pre .2) (c .before .before .before .before .before .before .before .before .before .before .before .before .before .before .before .before .before .before .before .before .before .before .before .before .before .before .before .before .before .before .if1 .taken) (call .0), omega (arith, call .1, kept .few))
+    let ended = c .before .before .before .before .before .before .before .before .before .before .before .before .before .before .before .before .before .before .before in
+    let tested = ended .before .before .before .before .before .before .before .before .before .before .before in
+    let kept = tested .before .before .before .before in
+    let entry = kept .before .before .before .before .before .before .before .before .before .before .before .before .before in
+    rw (c .moved-by .ensures) (
+      laws.moved-feed _ _ _ _ _ (kept .keep .ensures) (entry .pre .2) (tested .if1 .taken) (ended .end-line .ensures .0),
+      omega (arith, ended .end-line .ensures .1, kept .keep .ensures .few),
+    )
 
 same-length-11 : tie.Need-same-length-11
 same-length-11 c = search needs
 
 returns-2 : tie.Need-returns-2
 returns-2 c =
-    let kept = c .before .before .before .before .keep .ensures in
-    (laws.moved-all _ _ _ _ _ kept (c .before .before .before .before .before .before .before .before .before .before .before .before .before .before .before .before .before .pre .2) (c .if1 .left), kept .few)
+    let kept = c .before .before .before .before in
+    let entry = kept .before .before .before .before .before .before .before .before .before .before .before .before .before in
+    (laws.moved-all _ _ _ _ _ (kept .keep .ensures) (entry .pre .2) (c .if1 .left), kept .keep .ensures .few)
 
 pub take-line-spec : {M : Type 1} → statement M
 take-line-spec =

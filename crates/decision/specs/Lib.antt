@@ -1,4 +1,0 @@
-pub mod ByValue
-pub mod Promise
-pub mod PromiseLaws
-pub mod Tables

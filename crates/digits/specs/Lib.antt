@@ -1,0 +1,5 @@
+pub mod Digits
+pub mod DigitsLaws
+pub mod RoomLaws
+pub mod Written
+pub mod WrittenLaws

@@ -1,0 +1,58 @@
+-- `lent_tables::size_line` meets its contract. Assumes nothing.
+use Rattle.lent_tables.proofs.SizeLaws as laws
+use borrow.Author.Needs.{needs}
+use Rattle.lent_tables.proofs.size_line.Statement.{statement}
+use Rattle.lent_tables.proofs.size_line.Tie as tie
+
+room-for-requires : tie.Need-room-for-requires
+room-for-requires c κs = search needs
+
+clear-all-requires : tie.Need-clear-all-requires
+clear-all-requires c κs = search needs
+
+same-length : tie.Need-same-length
+same-length c = search needs
+
+same-length-2 : tie.Need-same-length-2
+same-length-2 c = search needs
+
+same-length-3 : tie.Need-same-length-3
+same-length-3 c = search needs
+
+same-length-4 : tie.Need-same-length-4
+same-length-4 c = search needs
+
+same-length-5 : tie.Need-same-length-5
+same-length-5 c = search needs
+
+same-length-6 : tie.Need-same-length-6
+same-length-6 c = search needs
+
+same-length-7 : tie.Need-same-length-7
+same-length-7 c = search needs
+
+same-length-8 : tie.Need-same-length-8
+same-length-8 c = search needs
+
+returns : tie.Need-returns
+returns c = search laws.sized-room
+
+returns-2 : tie.Need-returns-2
+returns-2 c = search laws.sized-none
+
+pub size-line-spec : {M : Type 1} → statement M
+size-line-spec =
+    tie.close
+    (tie.spec
+    room-for-requires
+    clear-all-requires
+    same-length
+    same-length-2
+    same-length-3
+    same-length-4
+    same-length-5
+    same-length-6
+    same-length-7
+    same-length-8
+    returns
+    returns-2)

@@ -1,2 +1,0 @@
-pub mod FormLaws
-pub mod NameLaws

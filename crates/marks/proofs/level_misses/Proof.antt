@@ -1,0 +1,55 @@
+-- `marks::level_misses` meets its contract. The invariant: none of the numbers passed is found. The measure is how many are left. Assumes nothing.
+use Rattle.marks.specs.Marks.{wordMisses}
+use Rattle.members.specs.Any.{any}
+use Rattle.members.specs.AnyLaws.{any-found, any-next, any-done}
+use lib.ListN.{length}
+use Prim.Native.Nat.{_≤_}
+use mathlib.Core.Path.{_≡_}
+use borrow.Author.Needs.{needs}
+use Rattle.marks.proofs.level_misses.Statement.{statement}
+use Rattle.marks.proofs.level_misses.Tie as tie
+
+abbrev Inv-loop : tie.InvT-loop
+Inv-loop memory marks bits below left₀ left = (left ≤ length memory) × (any (length memory) (wordMisses memory marks bits below) ≡ any left (wordMisses memory marks bits below))
+
+abbrev μ-loop : tie.MeasureT-loop
+μ-loop memory marks bits below left₀ left = left
+
+loop-holds : tie.Need-loop-holds Inv-loop μ-loop
+loop-holds c = search needs
+
+sub-j : tie.Need-sub-j Inv-loop μ-loop
+sub-j c = search needs
+
+word-misses-requires : tie.Need-word-misses-requires Inv-loop μ-loop
+word-misses-requires c κs = search needs
+
+returns : tie.Need-returns Inv-loop μ-loop
+returns c = search any-found
+
+sub-left : tie.Need-sub-left Inv-loop μ-loop
+sub-left c = search needs
+
+loop-less : tie.Need-loop-less Inv-loop μ-loop
+loop-less c = search needs
+
+loop-again : tie.Need-loop-again Inv-loop μ-loop
+loop-again c = search (needs, any-next)
+
+returns-2 : tie.Need-returns-2 Inv-loop μ-loop
+returns-2 c = search any-done
+
+pub level-misses-spec : {M : Type 1} → statement M
+level-misses-spec =
+    tie.close
+    (tie.spec
+    Inv-loop
+    μ-loop
+    loop-holds
+    sub-j
+    word-misses-requires
+    returns
+    sub-left
+    loop-less
+    loop-again
+    returns-2)

@@ -1,0 +1,54 @@
+-- `marks::levels_miss` meets its contract. The invariant: none of the numbers passed is found. The measure is how many are left. Assumes nothing.
+use Rattle.marks.specs.Marks.{levelMisses}
+use Rattle.members.specs.Any.{any}
+use Rattle.members.specs.AnyLaws.{any-found, any-next, any-done}
+use Prim.Native.Nat.{_≤_}
+use mathlib.Core.Path.{_≡_}
+use borrow.Author.Needs.{needs}
+use Rattle.marks.proofs.levels_miss.Statement.{statement}
+use Rattle.marks.proofs.levels_miss.Tie as tie
+
+abbrev Inv-loop : tie.InvT-loop
+Inv-loop memory marks bits levels left₀ left = (left ≤ levels) × (any levels (levelMisses memory marks bits) ≡ any left (levelMisses memory marks bits))
+
+abbrev μ-loop : tie.MeasureT-loop
+μ-loop memory marks bits levels left₀ left = left
+
+loop-holds : tie.Need-loop-holds Inv-loop μ-loop
+loop-holds c = search needs
+
+sub-k : tie.Need-sub-k Inv-loop μ-loop
+sub-k c = search needs
+
+level-misses-requires : tie.Need-level-misses-requires Inv-loop μ-loop
+level-misses-requires c κs = search needs
+
+returns : tie.Need-returns Inv-loop μ-loop
+returns c = search any-found
+
+sub-left : tie.Need-sub-left Inv-loop μ-loop
+sub-left c = search needs
+
+loop-less : tie.Need-loop-less Inv-loop μ-loop
+loop-less c = search needs
+
+loop-again : tie.Need-loop-again Inv-loop μ-loop
+loop-again c = search (needs, any-next)
+
+returns-2 : tie.Need-returns-2 Inv-loop μ-loop
+returns-2 c = search any-done
+
+pub levels-miss-spec : {M : Type 1} → statement M
+levels-miss-spec =
+    tie.close
+    (tie.spec
+    Inv-loop
+    μ-loop
+    loop-holds
+    sub-k
+    level-misses-requires
+    returns
+    sub-left
+    loop-less
+    loop-again
+    returns-2)

@@ -1,0 +1,137 @@
+-- Marks that miss nothing are on every memory word that a walk reads.
+--     paged-ranges        what `paged` says of the numbers of an entry
+--     walks-paged         an entry that is walked for some address is paged
+--     table-marked        every word of a table that misses nothing is marked
+--     walk-marked         every word that a walk reads has a mark, where its first table and all levels miss nothing
+--     entry-marked        the same of the walk by an entry that misses nothing, for any address
+-- Assumes nothing.
+use mathlib.Core.Path.{_≡_, refl}
+use mathlib.Core.Bool.{true, false, not, _&&_, _||_}
+use mathlib.Core.List.{List, List·Memᴰ, List·Memᴰ·not-nil}
+use Prim.Native.Nat.{ℕ, zero, suc, _+_, _-_, _*_, _/_, _%_, _^_, _<_, _≤_}
+use native.Mathlib.Nat.{mod-lt, div-eq-of-lt, zero-div}
+use native.Mathlib.Numerals.{add-one}
+use native.Mathlib.Omega.{arith}
+use lib.Dec.{leb, ltb, eqb}
+use lib.ListN.{length}
+use lib.Pow.{pow-pos}
+use borrow.Author.Tests.{ltb-true, ltb-false, leb-true, eqb-true, le-ltb, le-leb}
+use Rattle.kinds.specs.Tests.{by-cases, clash, and-left, and-right}
+use Rattle.kinds.specs.Words.{at}
+use Rattle.kinds.specs.declared.number.ByteAddress.{ByteAddress}
+use Rattle.kinds.specs.declared.number.PageNumber.{PageNumber}
+use Rattle.kinds.specs.declared.record.TranslationEntry.{TranslationEntry}
+use Rattle.profile.specs.Entry.{pageOf, indexBits, span, aligned, tableGood, bypass, pagesGood, walks}
+use Rattle.profile.specs.Walk.{place, nextBase, leads, walkFrom, walk, readsBy}
+use Rattle.profile.specs.WalkLaws.{walk-suc, walk-cases}
+use Rattle.members.specs.AnyLaws.{any-none}
+use Rattle.members.specs.MemberLaws.{not-true, not-false}
+use Rattle.marks.specs.Marks.{anyMark, markAt, inTable, misses, tableMisses, wordMisses, levelMisses, levelsMiss, paged, entryMisses}
+
+pub paged-ranges : (e : TranslationEntry) → paged e ≡ true → (e .table ≤ 31) × ((1 ≤ e .levels) × (e .levels ≤ 5))
+unfolding paged
+paged-ranges e h =
+    by-cases (ltb (e .table) 1) (λ o. clash (rw o at h) refl) (λ o.
+    by-cases (ltb 31 (e .table)) (λ p. clash (rw (o, p) at h) refl) (λ p.
+    by-cases (eqb (e .page) 0) (λ q. clash (rw (o, p, q) at h) refl) (λ q.
+    by-cases (ltb (e .levels) 1) (λ r. clash (rw (o, p, q, r) at h) refl)
+    (λ r. (ltb-false 31 (e .table) p, (ltb-false (e .levels) 1 r, leb-true (e .levels) 5 (rw (o, p, q, r) at h)))))))
+
+module _ (e : TranslationEntry) (a : ByteAddress) (h : walks e a ≡ true) where
+  good : (tableGood e && not (bypass e) && pagesGood e) ≡ true
+  unfolding walks
+  good = and-left (tableGood e && not (bypass e) && pagesGood e) _ h
+
+  codes-good : tableGood e ≡ true
+  codes-good = and-left (tableGood e) (not (bypass e)) (and-left (tableGood e && not (bypass e)) (pagesGood e) good)
+
+  no-bypass : bypass e ≡ false
+  no-bypass = not-true (bypass e) (and-right (tableGood e) (not (bypass e)) (and-left (tableGood e && not (bypass e)) (pagesGood e) good))
+
+  levels-good : (1 ≤ e .levels) × (e .levels ≤ 5)
+  unfolding pagesGood
+  levels-good =
+      let known = eqb (e .page) 1 || eqb (e .page) 5 || eqb (e .page) 13 || eqb (e .page) 17 in
+      let base = aligned (indexBits e) (record { 0 = e .base }) in
+      let all = and-right (tableGood e && not (bypass e)) (pagesGood e) good in
+      let most = and-left (known && leb 1 (e .levels) && leb (e .levels) 5) base (and-left (known && leb 1 (e .levels) && leb (e .levels) 5 && base) (leb (span e) 59) all) in
+      let least = and-left (known && leb 1 (e .levels)) (leb (e .levels) 5) most in
+      (leb-true 1 (e .levels) (and-right known (leb 1 (e .levels)) least), leb-true (e .levels) 5 (and-right (known && leb 1 (e .levels)) (leb (e .levels) 5) most))
+
+  pub walks-paged : paged e ≡ true
+  unfolding paged tableGood
+  walks-paged =
+      let least = leb-true 1 (e .table) (and-left (leb 1 (e .table)) (leb (e .table) 31) codes-good) in
+      let most = leb-true (e .table) 31 (and-right (leb 1 (e .table)) (leb (e .table) 31) codes-good) in
+      rw (le-ltb _ _ least, le-ltb _ _ most, no-bypass, le-ltb _ _ (levels-good .0), le-leb _ _ (levels-good .1))
+
+-- ---- one table, and one level
+
+module _ (t : List ℕ) where
+  marked-any : (k j : ℕ) → markAt t k j ≡ true → anyMark t j ≡ true
+  unfolding markAt anyMark
+  marked-any k j h = by-cases (eqb (at t j) 0) (λ o. clash (rw (eqb-true (at t j) 0 o, zero-div (2 ^ k)) at h) refl) (λ o. rw o)
+
+  place-in : (k n : ℕ) (b : ByteAddress) (q : PageNumber) → inTable n (b .0 / 8) (place k n b q) ≡ true
+  unfolding inTable
+  place-in k n b q =
+      let x = q .0 / 2 ^ (n * k) % 2 ^ n in
+      let e : b .0 / 8 + x - b .0 / 8 ≡ x = omega arith in
+      rw (le-leb (b .0 / 8) (b .0 / 8 + x) (omega arith), e, div-eq-of-lt (mod-lt (q .0 / 2 ^ (n * k)) (pow-pos n)))
+
+  pub table-marked : (c n k f j : ℕ) → tableMisses t c n k f ≡ false → j < c → inTable n f j ≡ true → markAt t k j ≡ true
+  unfolding misses
+  table-marked c n k f j h l i = not-false (markAt t k j) (rw i at (any-none c (misses t n k f) h j l))
+
+module _ (m t : List ℕ) (n : ℕ) where
+  word-leads : (k j : ℕ) → wordMisses m t n k j ≡ false → markAt t (k + 1) j ≡ true → leads n (at m j) ≡ true
+      → tableMisses t (length m) n k (nextBase (at m j) .0 / 8) ≡ false
+  unfolding wordMisses leads
+  word-leads k j h o u =
+      by-cases (eqb (at m j % 4) 0)
+      (λ z. clash (rw z at u) refl)
+      (λ z. let e : at m j / 4096 * 4096 / 8 ≡ at m j / 4096 * 512 = omega arith in rw e (rw (o, z) at h))
+
+  read-inside : (k : ℕ) (b : ByteAddress) (q : PageNumber) (i : ℕ) → List·Memᴰ i (walkFrom m (suc k) n b q .reads) → place k n b q < length m
+  read-inside k b q i h =
+      by-cases (ltb (place k n b q) (length m)) (λ o. ltb-true _ _ o)
+      (λ o. absurd (List·Memᴰ·not-nil (rw o at (rw (walk-suc m k n b q) at h))))
+
+  -- the word that page q has in a table that misses nothing
+  here : (k : ℕ) (b : ByteAddress) (q : PageNumber) → tableMisses t (length m) n k (b .0 / 8) ≡ false
+      → (i : ℕ) → List·Memᴰ i (walkFrom m (suc k) n b q .reads) → markAt t k (place k n b q) ≡ true
+  here k b q root i h = table-marked t (length m) n k (b .0 / 8) (place k n b q) root (read-inside k b q i h) (place-in t k n b q)
+
+  pub walk-marked : (k : ℕ) (b : ByteAddress) (q : PageNumber) → ((l : ℕ) → l < k → levelMisses m t n l ≡ false)
+      → tableMisses t (length m) n k (b .0 / 8) ≡ false
+      → (i : ℕ) → List·Memᴰ i (walkFrom m (suc k) n b q .reads) → anyMark t i ≡ true
+  walk-marked zero b q levels root i h =
+      walk-cases m zero n b q i h (λ e. rw e (marked-any t zero (place zero n b q) (here zero b q root i h))) (λ o z. clash o refl)
+  walk-marked (suc k) b q levels root i h =
+      let j = place (suc k) n b q in
+      let mark = here (suc k) b q root i h in
+      let none = any-none (length m) (wordMisses m t n k) (levels k (omega arith)) j (read-inside (suc k) b q i h) in
+      walk-cases m (suc k) n b q i h (λ e. rw e (marked-any t (suc k) j mark))
+      (λ o z. walk-marked k (nextBase (at m j)) q (λ l s. levels l (omega arith)) (word-leads k j none (rw add-one mark) o) i z)
+
+-- ---- entries
+
+module _ (m t : List ℕ) (e : TranslationEntry) (none : entryMisses m t e ≡ false) where
+  root-none : paged e ≡ true → tableMisses t (length m) (indexBits e) (e .levels - 1) (e .base / 8) ≡ false
+  unfolding entryMisses
+  root-none o =
+      by-cases (tableMisses t (length m) (indexBits e) (e .levels - 1) (e .base / 8)) (λ u. clash refl (rw (o, u) at none)) (λ u. u)
+
+  levels-none : paged e ≡ true → levelsMiss m t (indexBits e) (e .levels - 1) ≡ false
+  unfolding entryMisses
+  levels-none o = rw (o, root-none o) at none
+
+  pub entry-marked : (a : ByteAddress) (i : ℕ) → List·Memᴰ i (readsBy e m a) → anyMark t i ≡ true
+  unfolding readsBy
+  entry-marked a i h =
+      by-cases (walks e a)
+      (λ o. let p = walks-paged e a o in
+      let some : suc (e .levels - 1) ≡ e .levels = omega (arith, paged-ranges e p .1 .0) in
+      walk-marked m t (indexBits e) (e .levels - 1) (record { 0 = e .base }) (pageOf e a)
+      (any-none (e .levels - 1) (levelMisses m t (indexBits e)) (levels-none p)) (root-none p) i (rw some (rw o at h)))
+      (λ o. absurd (List·Memᴰ·not-nil (rw o at h)))

@@ -1,0 +1,4 @@
+pub mod Any
+pub mod AnyLaws
+pub mod Member
+pub mod MemberLaws

@@ -1,0 +1,3 @@
+pub mod NamePlace
+pub mod NamePlaceLaws
+pub mod ReadLaws

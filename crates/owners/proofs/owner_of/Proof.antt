@@ -1,0 +1,108 @@
+-- `owners::owner_of` meets its contract. Assumes nothing.
+use Rattle.profile.specs.Owner.{owner}
+use Rattle.owners.proofs.OwnerLaws as laws
+use borrow.Author.Needs.{needs}
+use Rattle.owners.proofs.owner_of.Statement.{statement}
+use Rattle.owners.proofs.owner_of.Tie as tie
+
+enum-known-request : tie.Need-enum-known-request
+enum-known-request c = search needs
+
+of-requester-requires : tie.Need-of-requester-requires
+of-requester-requires c κs = search needs
+
+returns : tie.Need-returns
+unfolding owner
+returns c = search laws.owner-case
+
+enum-known-request-2 : tie.Need-enum-known-request-2
+enum-known-request-2 c = search needs
+
+route-requires : tie.Need-route-requires
+route-requires c κs = search needs
+
+of-hit-requires : tie.Need-of-hit-requires
+of-hit-requires c κs = search needs
+
+returns-2 : tie.Need-returns-2
+returns-2 c = search laws.load-owner
+
+enum-known-request-3 : tie.Need-enum-known-request-3
+enum-known-request-3 c = search needs
+
+route-requires-2 : tie.Need-route-requires-2
+route-requires-2 c κs = search needs
+
+of-hit-requires-2 : tie.Need-of-hit-requires-2
+of-hit-requires-2 c κs = search needs
+
+returns-3 : tie.Need-returns-3
+returns-3 c = search laws.store-owner
+
+enum-known-request-4 : tie.Need-enum-known-request-4
+enum-known-request-4 c = search needs
+
+of-requester-requires-2 : tie.Need-of-requester-requires-2
+of-requester-requires-2 c κs = search needs
+
+returns-4 : tie.Need-returns-4
+unfolding owner
+returns-4 c = search laws.owner-case
+
+enum-known-request-5 : tie.Need-enum-known-request-5
+enum-known-request-5 c = search needs
+
+named-pe-requires : tie.Need-named-pe-requires
+named-pe-requires c κs = search needs
+
+returns-5 : tie.Need-returns-5
+unfolding owner
+returns-5 c = search laws.owner-case
+
+enum-known-request-6 : tie.Need-enum-known-request-6
+enum-known-request-6 c = search needs
+
+of-interrupt-requires : tie.Need-of-interrupt-requires
+of-interrupt-requires c κs = search needs
+
+returns-6 : tie.Need-returns-6
+unfolding owner
+returns-6 c = search laws.owner-case
+
+enum-known-request-7 : tie.Need-enum-known-request-7
+enum-known-request-7 c = search needs
+
+of-interrupt-requires-2 : tie.Need-of-interrupt-requires-2
+of-interrupt-requires-2 c κs = search needs
+
+returns-7 : tie.Need-returns-7
+unfolding owner
+returns-7 c = search laws.owner-case
+
+pub owner-of-spec : {M : Type 1} → statement M
+owner-of-spec =
+    tie.close
+    (tie.spec
+    enum-known-request
+    of-requester-requires
+    returns
+    enum-known-request-2
+    route-requires
+    of-hit-requires
+    returns-2
+    enum-known-request-3
+    route-requires-2
+    of-hit-requires-2
+    returns-3
+    enum-known-request-4
+    of-requester-requires-2
+    returns-4
+    enum-known-request-5
+    named-pe-requires
+    returns-5
+    enum-known-request-6
+    of-interrupt-requires
+    returns-6
+    enum-known-request-7
+    of-interrupt-requires-2
+    returns-7)

@@ -1,0 +1,21 @@
+-- The shape of a page table, as the code goes: each is a part of a definition of `profile`.
+--     known e             a page code that has a size; sizeCode e: its size
+--     shapeOf e           the page size and span of a good entry with pages, whose table code is at most 31
+-- Assumes nothing.
+use mathlib.Core.Bool.{Bool, cond, _||_}
+use lib.Dec.{leb, eqb}
+use Rattle.kinds.specs.declared.record.TranslationEntry.{TranslationEntry}
+use Rattle.profile.specs.Entry.{pageSize, span, pagesGood}
+use Rattle.page_tables.specs.declared.Shape.{Shape}
+use Rattle.page_tables.specs.declared.Shape.the-variants.{Pages, Bad}
+use Rattle.page_tables.specs.declared.SizeCode.{SizeCode}
+use Rattle.page_tables.specs.declared.SizeCode.the-variants.{Known, Unknown}
+
+abbrev pub known : TranslationEntry → Bool
+known e = eqb (e .page) 1 || eqb (e .page) 5 || eqb (e .page) 13 || eqb (e .page) 17
+
+abbrev pub sizeCode : TranslationEntry → SizeCode
+sizeCode e = cond (known e) (Known (pageSize e)) Unknown
+
+abbrev pub shapeOf : TranslationEntry → Shape
+shapeOf e = cond (leb (e .table) 31) (cond (pagesGood e) (Pages (pageSize e) (span e)) Bad) Bad

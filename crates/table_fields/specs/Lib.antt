@@ -1,0 +1,2 @@
+pub mod TablePlace
+pub mod TablePlaceLaws
