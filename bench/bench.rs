@@ -8,9 +8,14 @@
 // and by the proved one, and the ratio of the last two. `list` prints the works and the requests
 // of one batch of each.
 //
-// The requests come in batches. All three serve a batch before the next one is made, and take
-// turns at being first. Answers and words are compared after each batch, outside the time. On a
-// difference it prints one line that names the request, and exits with 1.
+// Compiled with `--cfg base` it has the proved code of another commit too: the three are the plain
+// bridge on words, the base and the new code. The base has to take the arguments of
+// `tests/celltimber.rs`, with the same words in tables, requests and answers.
+//
+// The requests come in batches. All three serve a batch before the next one is made. They take
+// turns at being first, and at each of the three copies of the tables. Answers and words are
+// compared after each batch, outside the time. On a difference it prints one line that names the
+// request, and exits with 1.
 
 #[path = "../plain/bridge.rs"]
 #[allow(dead_code)]
@@ -24,6 +29,20 @@ mod random;
 #[path = "../tests/words.rs"]
 #[allow(dead_code)]
 mod words;
+
+/// The function of the base. `bench/run` writes the included file: `tests/celltimber.rs`, with the
+/// symbol of the base.
+#[cfg(base)]
+#[path = "."]
+#[allow(dead_code)]
+mod base {
+    use super::bridge;
+    mod celltimber {
+        include!("../target/bench/base/celltimber.rs");
+    }
+    #[path = "../tests/words.rs"]
+    pub mod words;
+}
 
 use bridge::{Answer, Bridge, Name, Part, Request};
 use celltimber::*;
@@ -322,6 +341,50 @@ fn clears() -> Vec<RequestWords> {
 
 // ---- The bridges side by side ----
 
+/// Takes request words on tables to answer words, and returns how many requests it served.
+type Run = fn(&mut Bridge, &[u64], &mut [u64]) -> usize;
+
+/// One of the programs that serve the same requests.
+struct Program {
+    name: &'static str,
+    run: Run,
+    /// What is timed.
+    serve: fn(&mut Side, &mut Batch),
+}
+
+#[cfg_attr(base, allow(dead_code))]
+const VALUES: Program = Program {
+    name: "values",
+    run: run_plain,
+    serve: |side, batch| serve_values(side, &batch.requests, &mut batch.answers),
+};
+const PLAIN: Program =
+    Program { name: "plain", run: run_plain, serve: |side, batch| serve_plain(side, &batch.words) };
+const PROVED: Program = Program {
+    name: if cfg!(base) { "new" } else { "proved" },
+    run: run_proved,
+    serve: |side, batch| serve_proved(side, &batch.words),
+};
+#[cfg(base)]
+const BASE: Program = Program {
+    name: "base",
+    run: base::words::run_proved,
+    serve: |side, batch| serve_base(side, &batch.words),
+};
+
+/// The ratio is that of the last to the one before it.
+#[cfg(not(base))]
+const PROGRAMS: [Program; 3] = [VALUES, PLAIN, PROVED];
+#[cfg(base)]
+const PROGRAMS: [Program; 3] = [PLAIN, BASE, PROVED];
+
+/// The requests of a batch as words and as values, and room for answers as values.
+struct Batch {
+    words: Vec<u64>,
+    requests: Vec<Request>,
+    answers: Vec<Answer>,
+}
+
 /// The tables of the bridges of one side, the answers of each, and how many were served.
 struct Side {
     bridges: Vec<Bridge>,
@@ -342,7 +405,7 @@ impl Side {
     }
 
     /// Every bridge serves the requests.
-    fn serve(&mut self, requests: &[u64], run: fn(&mut Bridge, &[u64], &mut [u64]) -> usize) {
+    fn serve(&mut self, requests: &[u64], run: Run) {
         let room = self.answers.chunks_exact_mut(requests.len() / REQUEST_WORDS * ANSWER_WORDS);
         for (tables, answers) in self.bridges.iter_mut().zip(room) {
             self.served += run(tables, requests, answers);
@@ -382,64 +445,66 @@ fn serve_proved(side: &mut Side, requests: &[u64]) {
     side.serve(requests, run_proved);
 }
 
-/// Nanoseconds that a call takes.
-fn timed(call: impl FnOnce()) -> f64 {
-    let start = Instant::now();
-    call();
-    start.elapsed().as_nanos() as f64
+#[cfg(base)]
+#[inline(never)]
+fn serve_base(side: &mut Side, requests: &[u64]) {
+    side.serve(requests, base::words::run_proved);
 }
 
-/// The same tables three times.
-struct Sides {
-    values: Side,
-    plain: Side,
-    proved: Side,
+/// The orders in which the three programs serve, and the side of each: they take turns.
+const ORDERS: [[usize; 3]; 6] = [[0, 1, 2], [1, 2, 0], [2, 0, 1], [2, 1, 0], [0, 2, 1], [1, 0, 2]];
+
+fn side_of(program: usize, turn: usize) -> usize {
+    (program + turn / ORDERS.len()) % 3
 }
+
+/// The same tables three times. They are equal between batches, so that any program can have any.
+struct Sides([Side; 3]);
 
 impl Sides {
     fn new(work: &Work) -> Sides {
-        Sides { values: Side::new(work), plain: Side::new(work), proved: Side::new(work) }
+        Sides(std::array::from_fn(|_| Side::new(work)))
     }
 
-    /// All serve the same requests, in an order that `turn` picks; nanoseconds to a request.
+    /// All serve the same requests, in an order and on sides that `turn` picks.
     fn serve(&mut self, requests: &[RequestWords], turn: usize) -> Times {
-        let words = requests.concat();
-        let decoded: Vec<Request> = requests.iter().map(|words| decode(words)).collect();
-        let all = requests.len() * self.values.bridges.len();
-        let mut answers = vec![NO_ANSWER; all];
-        for side in [&mut self.values, &mut self.plain, &mut self.proved] {
+        let all = requests.len() * self.0[0].bridges.len();
+        let mut batch = Batch {
+            words: requests.concat(),
+            requests: requests.iter().map(|words| decode(words)).collect(),
+            answers: vec![NO_ANSWER; all],
+        };
+        for side in &mut self.0 {
             side.clear_answers(requests.len());
         }
-        let mut times = Times { values: 0.0, plain: 0.0, proved: 0.0 };
-        for k in turn..turn + 3 {
-            match k % 3 {
-                0 => {
-                    let values = &mut self.values;
-                    times.values = timed(|| serve_values(values, &decoded, &mut answers));
-                }
-                1 => times.plain = timed(|| serve_plain(&mut self.plain, &words)),
-                _ => times.proved = timed(|| serve_proved(&mut self.proved, &words)),
-            }
+        let mut times = [0.0; 3];
+        for k in ORDERS[turn % ORDERS.len()] {
+            let start = Instant::now();
+            (PROGRAMS[k].serve)(&mut self.0[side_of(k, turn)], &mut batch);
+            times[k] = start.elapsed().as_nanos() as f64 / all as f64;
         }
-        self.values.answers = answers.into_iter().flat_map(answer_words).collect();
-        let each = |time| time / all as f64;
-        Times { values: each(times.values), plain: each(times.plain), proved: each(times.proved) }
+        // `serve_values` leaves no words.
+        if !cfg!(base) {
+            self.0[side_of(0, turn)].answers =
+                batch.answers.into_iter().flat_map(answer_words).collect();
+        }
+        let [first, second, third] = times;
+        [first, second, third, third / second]
     }
 
     /// All serve the same requests, with no time taken.
-    fn prepare(&mut self, requests: &[RequestWords]) {
+    fn prepare(&mut self, requests: &[RequestWords], turn: usize) {
         let words = requests.concat();
-        for side in [&mut self.values, &mut self.plain, &mut self.proved] {
+        for k in ORDERS[turn % ORDERS.len()] {
+            let side = &mut self.0[side_of(k, turn)];
             side.clear_answers(requests.len());
+            side.serve(&words, PROGRAMS[k].run);
         }
-        self.values.serve(&words, run_plain);
-        self.plain.serve(&words, run_plain);
-        self.proved.serve(&words, run_proved);
     }
 
     /// The state and the interrupts, which are the same on all sides between batches.
     fn written(&self) -> (Vec<u64>, Vec<u64>) {
-        let tables = &self.plain.bridges[0];
+        let tables = &self.0[0].bridges[0];
         (tables.state.clone(), tables.interrupts.clone())
     }
 
@@ -450,7 +515,8 @@ impl Sides {
         requests: &[RequestWords],
         (state, interrupts): (Vec<u64>, Vec<u64>),
     ) -> Result<(), String> {
-        if self.plain.same(&self.proved) && self.plain.same(&self.values) {
+        let [first, others @ ..] = &self.0;
+        if others.iter().all(|side| side.same(first)) {
             return Ok(());
         }
         let before = Bridge { state, interrupts, ..work.tables.clone() };
@@ -460,21 +526,24 @@ impl Sides {
 
 /// The first request that differs, all served one by one from these tables.
 fn difference(tables: &Bridge, requests: &[RequestWords]) -> String {
-    let (mut plain, mut proved) = (tables.clone(), tables.clone());
-    for (k, request) in requests.iter().enumerate() {
-        let (mut wanted, mut given) = ([UNWRITTEN; ANSWER_WORDS], [UNWRITTEN; ANSWER_WORDS]);
-        run_plain(&mut plain, request, &mut wanted);
-        run_proved(&mut proved, request, &mut given);
-        if wanted != given || plain != proved {
-            let words = if plain == proved { "the same" } else { "other" };
-            return format!(
-                "request {} {:x?}: proved {:x?}, plain {:x?}, {} words left",
-                k + 1,
-                request,
-                given,
-                wanted,
-                words
-            );
+    for program in &PROGRAMS {
+        let (mut plain, mut other) = (tables.clone(), tables.clone());
+        for (k, request) in requests.iter().enumerate() {
+            let (mut wanted, mut given) = ([UNWRITTEN; ANSWER_WORDS], [UNWRITTEN; ANSWER_WORDS]);
+            run_plain(&mut plain, request, &mut wanted);
+            (program.run)(&mut other, request, &mut given);
+            if wanted != given || plain != other {
+                let words = if plain == other { "the same" } else { "other" };
+                return format!(
+                    "request {} {:x?}: {} {:x?}, plain {:x?}, {} words left",
+                    k + 1,
+                    request,
+                    program.name,
+                    given,
+                    wanted,
+                    words
+                );
+            }
         }
     }
     "all requests in one call, none alone".to_string()
@@ -482,29 +551,20 @@ fn difference(tables: &Bridge, requests: &[RequestWords]) -> String {
 
 // ---- Time ----
 
-/// Nanoseconds to a request.
-#[derive(Clone, Copy)]
-struct Times {
-    values: f64,
-    plain: f64,
-    proved: f64,
+/// Nanoseconds to a request by each program, and the ratio of the last two of them.
+type Times = [f64; 4];
+
+const RATIO: usize = 3;
+
+/// One column of all, the least first.
+fn sorted(all: &[Times], column: usize) -> Vec<f64> {
+    let mut numbers: Vec<f64> = all.iter().map(|times| times[column]).collect();
+    numbers.sort_by(f64::total_cmp);
+    numbers
 }
 
-impl Times {
-    fn ratio(&self) -> f64 {
-        self.proved / self.plain
-    }
-}
-
-/// All in order, the least first.
-fn sorted(all: &[Times], number: impl Fn(&Times) -> f64) -> Vec<f64> {
-    let mut all: Vec<f64> = all.iter().map(number).collect();
-    all.sort_by(f64::total_cmp);
-    all
-}
-
-fn median(all: &[Times], number: impl Fn(&Times) -> f64) -> f64 {
-    sorted(all, number)[all.len() / 2]
+fn medians(all: &[Times]) -> Times {
+    std::array::from_fn(|column| sorted(all, column)[all.len() / 2])
 }
 
 /// One repetition: the medians of its batches.
@@ -515,14 +575,14 @@ fn repetition(work: &Work, batches: usize, random: &mut Random) -> Result<Times,
         let told = |text| format!("{}, batch {}: {}", work.name, batch + 1, text);
         if !work.before.is_empty() {
             let written = sides.written();
-            sides.prepare(&work.before);
+            sides.prepare(&work.before, batch);
             sides.compare(work, &work.before, written).map_err(told)?;
         }
         let written = sides.written();
         let requests = (work.batch)(random);
         all.push(sides.serve(&requests, batch));
         sides.compare(work, &requests, written).map_err(told)?;
-        for (k, answer) in sides.proved.answers.chunks(ANSWER_WORDS).enumerate() {
+        for (k, answer) in sides.0[0].answers.chunks(ANSWER_WORDS).enumerate() {
             let k = k % requests.len();
             if !(work.wanted)(answer.try_into().unwrap()) {
                 let text =
@@ -532,14 +592,11 @@ fn repetition(work: &Work, batches: usize, random: &mut Random) -> Result<Times,
         }
     }
     // Every lent word, also of the tables that are not written.
-    if sides.plain.bridges != sides.proved.bridges {
+    let [first, others @ ..] = &sides.0;
+    if others.iter().any(|side| side.bridges != first.bridges) {
         return Err(format!("{}: a table that is not written differs", work.name));
     }
-    Ok(Times {
-        values: median(&all, |times| times.values),
-        plain: median(&all, |times| times.plain),
-        proved: median(&all, |times| times.proved),
-    })
+    Ok(medians(&all))
 }
 
 /// A line of the table: the medians of the repetitions, and the least and the greatest ratio.
@@ -550,23 +607,24 @@ fn measure(work: &Work, batches: usize, repetitions: usize) -> Result<String, St
         all.push(repetition(work, batches, &mut random)?);
     }
     let requests = (work.batch)(&mut random).len() * work.bridges * batches;
-    let ratios = sorted(&all, Times::ratio);
+    let [first, second, third, ratio] = medians(&all);
+    let ratios = sorted(&all, RATIO);
+    let (least, greatest) = (ratios[0], ratios[ratios.len() - 1]);
+    // `bench/run` takes the median of ratios to a base, and rounds it.
+    let digits = if cfg!(base) { 4 } else { 2 };
     Ok(format!(
-        "{:<20} {:>9} {:>9.1} {:>9.1} {:>9.1} {:>6.2} {:>6.2} to {:.2}",
-        work.name,
-        requests,
-        median(&all, |times| times.values),
-        median(&all, |times| times.plain),
-        median(&all, |times| times.proved),
-        median(&all, Times::ratio),
-        ratios[0],
-        ratios[ratios.len() - 1]
+        "{:<20} {requests:>9} {first:>9.1} {second:>9.1} {third:>9.1} {ratio:>6.digits$} \
+         {least:>6.digits$} to {greatest:.digits$}",
+        work.name
     ))
 }
 
 fn run_works(name: Option<&String>, numbers: &[usize]) -> Result<(), String> {
     let repetitions = *numbers.get(1).unwrap_or(&REPETITIONS);
-    println!("work                  requests    values     plain    proved  ratio   all ratios");
+    let [first, second, third] = PROGRAMS.map(|program| program.name);
+    println!(
+        "work                  requests {first:>9} {second:>9} {third:>9}  ratio   all ratios"
+    );
     for work in works() {
         if name.map_or(true, |name| name == work.name) {
             let batches = *numbers.first().unwrap_or(&work.batches);

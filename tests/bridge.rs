@@ -466,6 +466,23 @@ fn full_size_peers() {
 }
 
 #[test]
+fn peers_of_n_and_above() {
+    for n in [1, 4, 63, 64, 65, 128, 255] {
+        let mut t = Tables::new(n, 0, 1, 0);
+        for k in n..256 {
+            t.peers[k / 64] |= 1 << (k % 64);
+        }
+        t.would_freeze(error(0), done(), (0, 12, 0));
+        t.would_freeze(dma(0, READ, 0x3ABC, 4, 0), refuse(6, 0), (0, 6, 0x3ABC));
+        // With every bit set, all PEs that there are.
+        t.peers[..4].fill(u64::MAX);
+        let mut all = vec![(0, 12, 0)];
+        all.extend((1..n).map(|pe| (pe, 13, 0)));
+        t.freezes(error(0), done(), &all);
+    }
+}
+
+#[test]
 fn full_size_interrupts() {
     let mut t = largest();
     // Word 8,191 is 2P+Q of interrupt 2,047, word 8,190 its priority.
@@ -1079,8 +1096,8 @@ fn words_outside_the_slices() {
     let before = t.clone();
     let mut state = [&[UNWRITTEN; 8], &t.state[..], &[UNWRITTEN; 8]].concat();
     let mut interrupts = [&[UNWRITTEN; 8], &t.interrupts[..], &[UNWRITTEN; 8]].concat();
-    let mut answers = [UNWRITTEN; 32];
-    let requests = [dma(5, WRITE, 0xFFFF_0070, 4, 0), error(5)].concat();
+    let mut answers = [UNWRITTEN; 40];
+    let requests = [dma(5, WRITE, 0xFFFF_0070, 4, 0), [7; 8], error(5)].concat();
     let count = run(
         4,
         8,
@@ -1094,11 +1111,11 @@ fn words_outside_the_slices() {
         &t.segments,
         &mut state[8..20],
         &requests,
-        &mut answers[8..24],
+        &mut answers[8..32],
     );
-    assert_eq!(count, 2);
+    assert_eq!(count, 3);
     let guard = [UNWRITTEN; 8];
-    same("answers", &answers, &[guard, msi(7, 0x42, 5), done(), guard].concat());
+    same("answers", &answers, &[guard, msi(7, 0x42, 5), refuse(2, 0), done(), guard].concat());
     let frozen = [3, 13, 2, 3, 13, 2, 3, 12, 5, 3, 13, 2];
     same("state", &state, &[&guard, &frozen[..], &guard].concat());
     t.interrupts[31] = 2;

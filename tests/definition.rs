@@ -155,7 +155,8 @@ fn token(word: &str) -> Token {
     match (number, word.strip_prefix('.')) {
         (Ok(n), _) => Token::Number(n),
         (_, Some(field)) if !field.is_empty() => Token::Field(field.to_string()),
-        _ => Token::Name(word.to_string()),
+        // «a» is the name a where the language has that word for itself.
+        _ => Token::Name(word.trim_matches(['«', '»']).to_string()),
     }
 }
 
@@ -315,7 +316,8 @@ fn items(text: &str) -> Vec<String> {
 }
 
 impl Module {
-    fn read(text: &str) -> Module {
+    /// The whole file, or the numbers that it names.
+    fn read(text: &str, whole: bool) -> Module {
         let mut module = Module::default();
         for item in items(text) {
             let words: Vec<&str> = item.split_whitespace().collect();
@@ -328,7 +330,9 @@ impl Module {
                 }
             } else if let ["abbrev" | "unfoldable", "pub", name, ":", ..] = words[..] {
                 let kind = item.split_once(" : ").map_or("", |(_, kind)| kind.trim());
-                module.definitions.entry(name.to_string()).or_default().kind = kind.to_string();
+                if whole || kind == "ℕ" {
+                    module.definitions.entry(name.to_string()).or_default().kind = kind.to_string();
+                }
             } else if module.definitions.contains_key(words[0]) {
                 let mut reader = Reader { tokens: tokens(&item), place: 1 };
                 let mut patterns = Vec::new();
@@ -349,19 +353,21 @@ impl Module {
 // ---- Computing ----
 
 impl Modules {
-    /// The modules of these names and those that they import from, where the folder has them.
+    /// The modules of these names and those that they import from, where the folder has them; of
+    /// one that is neither a root nor wanted, its numbers alone.
     pub fn read(folder: &Path, roots: &[&str], wanted: fn(&str) -> bool) -> Modules {
+        let file = |name: &str| folder.join(format!("{name}.antt"));
         let mut modules = Modules(HashMap::new());
         let mut open: Vec<String> = roots.iter().map(|name| name.to_string()).collect();
         while let Some(name) = open.pop() {
             if modules.0.contains_key(&name) {
                 continue;
             }
-            let path = folder.join(format!("{name}.antt"));
+            let path = file(&name);
             let text = fs::read_to_string(&path)
                 .unwrap_or_else(|error| panic!("{}: {error}", path.display()));
-            let module = Module::read(&text);
-            open.extend(module.imports.values().filter(|name| wanted(name)).cloned());
+            let module = Module::read(&text, roots.contains(&&*name) || wanted(&name));
+            open.extend(module.imports.values().filter(|name| file(name).exists()).cloned());
             modules.0.insert(name, module);
         }
         modules

@@ -20,6 +20,7 @@
 mod definition;
 
 use definition::{Modules, Value};
+use std::borrow::Borrow;
 use std::env;
 use std::fs;
 use std::path::Path;
@@ -35,6 +36,7 @@ const STATE: &str = "state";
 
 const TOO_LARGE: &str = "larger than the text's limits";
 const NO_SUCH_TABLE: &str = "sizes or lengths that the text cannot lend";
+const NO_SUCH_LINE: &str = "words that name no request";
 
 /// The limits of a size line: N, M, R and memory.
 const MOST: [u64; 4] = [16, 64, 64, 4_096];
@@ -49,7 +51,7 @@ struct Output {
 }
 
 impl Output {
-    fn line(&mut self, fields: &[&str]) {
+    fn line(&mut self, fields: &[impl Borrow<str>]) {
         self.text.push_str(&fields.join("\t"));
         self.text.push('\n');
     }
@@ -82,31 +84,29 @@ impl Output {
 
 // ---- Rows ----
 
-/// A request as a line.
-fn request_fields(request: &Value) -> Vec<String> {
+/// A request as a line, or why the text cannot say it.
+fn request_fields(request: &Value) -> Result<Vec<String>, &'static str> {
     let (name, parts) = request.variant();
     let hex = |value: &Value| format!("{:x}", value.word());
     let address = |value: &Value| hex(value.field("0"));
     let mut fields: Vec<String> = match name {
         "Dma" => {
-            let direction = if parts[1].variant().0 == "Read" { "r" } else { "w" };
-            let [length, data] = [hex(&parts[3]), hex(&parts[4])];
-            vec![hex(&parts[0]), direction.to_string(), address(&parts[2]), length, data]
+            let of = |name: &str| parts[0].field(name);
+            let direction = if of("direction").variant().0 == "Read" { "r" } else { "w" };
+            let [requester, length, data] =
+                ["requester", "length", "data"].map(|name| hex(of(name)));
+            vec![requester, direction.to_string(), address(of("address")), length, data]
         }
         "Load" | "Store" => vec![address(&parts[0]), hex(&parts[1])],
         "Error" | "End" => vec![hex(&parts[0])],
         "Clear" => vec![hex(&parts[0]), parts[1].variant().0.to_lowercase()],
         "Priority" => vec![hex(&parts[0]), hex(&parts[1])],
-        _ => panic!("no line says {name}"),
+        "Unnamed" => return Err(NO_SUCH_LINE),
+        _ => panic!("a request of another kind: {name}"),
     };
     let word = if name == "Priority" { "prio".to_string() } else { name.to_lowercase() };
     fields.insert(0, word);
-    fields
-}
-
-fn write_request(out: &mut Output, request: &Value) {
-    let fields = request_fields(request);
-    out.line(&fields.iter().map(|field| &**field).collect::<Vec<_>>());
+    Ok(fields)
 }
 
 /// N, M, R and the length of memory.
@@ -121,11 +121,12 @@ fn in_text(sizes: [u64; 4]) -> bool {
 
 /// A row of a request, or why the text cannot say it.
 fn case(out: &mut Output, names: &Modules, case: &Value) -> Result<(), &'static str> {
+    let request = request_fields(case.field("request"))?;
     let tables = case.field("tables");
     let memory = case.field("memory").words();
     let sizes = sizes_of(tables.field("sizes"), memory.len() as u64);
     if reason_1(case) {
-        write_request(out, case.field("request"));
+        out.line(&request);
         write_answer(out, names, case.field("answer"));
         return Ok(());
     }
@@ -142,7 +143,7 @@ fn case(out: &mut Output, names: &Modules, case: &Value) -> Result<(), &'static 
     out.set_all(WINDOWS, &tables.field("windows").words());
     out.set_all(SEGMENTS, &tables.field("segments").words());
     out.set_all(STATE, &live.field("state").words());
-    write_request(out, case.field("request"));
+    out.line(&request);
     write_answer(out, names, case.field("answer"));
     let left = case.field("left");
     show_stop_bits(out, &left.field("state").words());
@@ -233,10 +234,7 @@ fn limit(out: &mut Output, limit: &Value) -> Result<(), &'static str> {
     let good = limit.field("good").variant().0 == "true";
     match limit.field("gives").variant() {
         ("sized", [sizes, lengths]) => sized(out, sizes, lengths, good),
-        ("formed", [request]) => {
-            formed(out, request, good);
-            Ok(())
-        }
+        ("formed", [request]) => formed(out, request, good),
         (name, _) => panic!("a limit of another test: {name}"),
     }
 }
@@ -274,7 +272,8 @@ fn sized(out: &mut Output, sizes: &Value, lengths: &Value, good: bool) -> Result
 
 /// On a bridge that serves all that is well formed: requester 5 is PE 2, whose records are both a
 /// bypass of all offsets; M32 is at 0 and M64 window 0 ends at 2^64; interrupt 7 is PE 2's.
-fn formed(out: &mut Output, request: &Value, good: bool) {
+fn formed(out: &mut Output, request: &Value, good: bool) -> Result<(), &'static str> {
+    let line = request_fields(request)?;
     out.size([4, 8, 8, 0]);
     out.set(REQUESTERS, 5, 2);
     for record in [16, 20] {
@@ -284,15 +283,15 @@ fn formed(out: &mut Output, request: &Value, good: bool) {
     out.set(INTERRUPTS, 28, 2);
     out.set_all(WINDOWS, &[0, 0x100000, 0, 0xFFFC_0000_0000_0000, 1 << 50, 1, 2]);
     out.set(SEGMENTS, 0, 2);
-    write_request(out, request);
+    out.line(&line);
     if !good {
         out.refuse(2);
-        return;
+        return Ok(());
     }
     let (name, parts) = request.variant();
     match name {
         "Dma" => {
-            let address = parts[2].field("0").word();
+            let address = parts[0].field("address").field("0").word();
             assert!(!(0xFFFF_0000..=0xFFFF_FFFF).contains(&address), "an MSI");
             match address >> 60 {
                 0 => out.answer("pass", 0, address & ((1 << 59) - 1), 0),
@@ -314,6 +313,7 @@ fn formed(out: &mut Output, request: &Value, good: bool) {
             out.refuse(14);
         }
     }
+    Ok(())
 }
 
 // ---- All rows ----
@@ -335,13 +335,16 @@ fn main() {
 
     let mut out = Output::default();
     let mut unsaid = Vec::new();
-    let mut said = 0;
+    let (mut said, mut early) = (0, 0);
     for row in before.iter().chain(&after).copied().chain(limits.list()) {
         out.row = row.record().row.clone().expect("a row of a list");
         let is_limit = row.record().has("gives");
         let done = if is_limit { limit(&mut out, row) } else { case(&mut out, &answers, row) };
         match done {
-            Ok(()) => said += 1,
+            Ok(()) => {
+                said += 1;
+                early += usize::from(!is_limit && reason_1(row));
+            }
             Err(why) => unsaid.push(format!("{}: {why}", out.row)),
         }
     }
@@ -361,7 +364,7 @@ fn main() {
         second.list().len(),
         limits.list().len(),
         said,
-        before.len(),
+        early,
         unsaid.len()
     );
 }

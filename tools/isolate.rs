@@ -11,6 +11,9 @@
 #[path = "../tests/celltimber.rs"]
 #[allow(dead_code)]
 mod celltimber;
+#[path = "../tests/premises.rs"]
+#[allow(dead_code)]
+mod premises;
 #[path = "../plain/replay.rs"]
 #[allow(dead_code)]
 mod replay;
@@ -19,6 +22,7 @@ mod replay;
 mod words;
 
 use celltimber::*;
+use premises::{closed, covers, member, seen, OwnerTables};
 use replay::bridge::{self, Bridge};
 use replay::{Line, Outcome, Table};
 use std::env;
@@ -27,134 +31,10 @@ use std::io::{self, Write};
 use std::process::exit;
 use words::{request_words, run_proved};
 
-// ---- The proved functions of crates/groups/src/export.rt ----
-
-extern "C" {
-    fn celltimber_owner(
-        pes: u64,
-        interrupt_count: u64,
-        requester_count: u64,
-        requesters: *const u16,
-        requesters_length: usize,
-        interrupts: *const u64,
-        interrupts_length: usize,
-        windows: *const u64,
-        windows_length: usize,
-        segments: *const u16,
-        segments_length: usize,
-        kind: u64,
-        a: u64,
-        b: u64,
-        c: u64,
-        d: u64,
-        e: u64,
-    ) -> u64;
-    fn celltimber_member(group: *const u64, group_length: usize, number: u64) -> u64;
-    fn celltimber_closed(
-        pes: u64,
-        peers: *const u64,
-        peers_length: usize,
-        group: *const u64,
-        group_length: usize,
-    ) -> u64;
-    fn celltimber_covers(
-        entries: *const u64,
-        entries_length: usize,
-        memory: *const u64,
-        memory_length: usize,
-        marks: *const u64,
-        marks_length: usize,
-        group: *const u64,
-        group_length: usize,
-    ) -> u64;
-    fn celltimber_seen(
-        interrupts: *const u64,
-        interrupts_length: usize,
-        marks: *const u64,
-        marks_length: usize,
-        group: *const u64,
-        group_length: usize,
-        table: u64,
-        index: usize,
-    ) -> u64;
-}
-
 /// A bit vector: PE k is bit k mod 64 of word k div 64.
 type Group = [u64; 4];
 
 const NO_GROUP: Group = [0; 4];
-
-// In each call below, each pointer and length is that of a slice, and nothing is asked of the arguments.
-
-fn member(group: &Group, number: u64) -> bool {
-    unsafe { celltimber_member(group.as_ptr(), group.len(), number) == 1 }
-}
-
-fn closed(tables: &Bridge, group: &Group) -> bool {
-    let peers = &tables.peers;
-    unsafe {
-        celltimber_closed(tables.n, peers.as_ptr(), peers.len(), group.as_ptr(), group.len()) == 1
-    }
-}
-
-fn covers(tables: &Bridge, marks: &[u64], group: &Group) -> bool {
-    let (entries, memory) = (&tables.translation, &tables.memory);
-    unsafe {
-        celltimber_covers(
-            entries.as_ptr(),
-            entries.len(),
-            memory.as_ptr(),
-            memory.len(),
-            marks.as_ptr(),
-            marks.len(),
-            group.as_ptr(),
-            group.len(),
-        ) == 1
-    }
-}
-
-fn seen(tables: &Bridge, marks: &[u64], group: &Group, table: Table, index: usize) -> bool {
-    let interrupts = &tables.interrupts;
-    unsafe {
-        celltimber_seen(
-            interrupts.as_ptr(),
-            interrupts.len(),
-            marks.as_ptr(),
-            marks.len(),
-            group.as_ptr(),
-            group.len(),
-            table as u64,
-            index,
-        ) == 1
-    }
-}
-
-/// The number of the PE that a request belongs to; 65,536 is nobody.
-fn owner(tables: &Bridge, request: &RequestWords) -> u64 {
-    let (requesters, interrupts) = (&tables.requesters, &tables.interrupts);
-    let (windows, segments) = (&tables.windows, &tables.segments);
-    unsafe {
-        celltimber_owner(
-            tables.n,
-            tables.m,
-            tables.r,
-            requesters.as_ptr(),
-            requesters.len(),
-            interrupts.as_ptr(),
-            interrupts.len(),
-            windows.as_ptr(),
-            windows.len(),
-            segments.as_ptr(),
-            segments.len(),
-            request[0],
-            request[1],
-            request[2],
-            request[3],
-            request[4],
-            request[5],
-        )
-    }
-}
 
 // ---- Files ----
 
@@ -322,7 +202,8 @@ fn place(file: &File, line: Option<(usize, &str)>) -> String {
 
 /// The requests of a file that belong to the group, by their places, with their owners.
 fn own(file: &File, group: &Group) -> Vec<(usize, u64)> {
-    let owners = file.requests.iter().map(|line| owner(&file.tables, &line.words));
+    let tables = OwnerTables::of(&file.tables);
+    let owners = file.requests.iter().map(|line| tables.owner(&line.words));
     owners.enumerate().filter(|&(_, pe)| member(group, pe)).collect()
 }
 
@@ -369,16 +250,14 @@ fn shown(answer: &AnswerWords) -> String {
 
 /// Whether the group's stop bits, error records and interrupt records are equal.
 fn same_afterwards(files: &[File; 2], group: &Group) -> bool {
-    let [a, b] = files;
-    let state = (0..a.tables.state.len()).all(|i| {
-        let counts = if i % 3 == 0 { 3 } else { u64::MAX };
-        !seen(&a.tables, &[], group, Table::State, i)
-            || a.tables.state[i] & counts == b.tables.state[i] & counts
+    let [a, b] = files.each_ref().map(|file| &file.tables);
+    let counts = |table: Table, i| seen(&a.interrupts, &[], group, table as u64, i);
+    let state = (0..a.state.len()).all(|i| {
+        let bits = if i % 3 == 0 { 3 } else { u64::MAX };
+        !counts(Table::State, i) || a.state[i] & bits == b.state[i] & bits
     });
-    let interrupts = (0..a.tables.interrupts.len()).all(|i| {
-        !seen(&a.tables, &[], group, Table::Interrupts, i)
-            || a.tables.interrupts[i] == b.tables.interrupts[i]
-    });
+    let interrupts = (0..a.interrupts.len())
+        .all(|i| !counts(Table::Interrupts, i) || a.interrupts[i] == b.interrupts[i]);
     state && interrupts
 }
 
@@ -407,16 +286,18 @@ fn compare(group_text: &str, names: [&str; 2]) -> Result<(String, bool), String>
     }
     let group = group(group_text, sizes[0].0)?;
     let tables = &files[0].tables;
-    let public = |line: &SetLine| seen(tables, &[], &NO_GROUP, line.table, line.index);
+    let seen = |marks: &[u64], group: &Group, line: &SetLine| {
+        seen(&tables.interrupts, marks, group, line.table as u64, line.index)
+    };
+    let public = |line: &SetLine| seen(&[], &NO_GROUP, line);
     same_sets("the same set lines for what is public", &files, public)?;
     let marks = marks(tables, &group);
-    if !covers(tables, &marks, &group) {
+    if !covers(&tables.translation, &tables.memory, &marks, &group) {
         stop("the marks of the group's table words miss one");
     }
-    let groups =
-        |line: &SetLine| !public(line) && seen(tables, &marks, &group, line.table, line.index);
+    let groups = |line: &SetLine| !public(line) && seen(&marks, &group, line);
     same_sets("the same set lines for what is the group's", &files, groups)?;
-    if !closed(tables, &group) {
+    if !closed(tables.n, &tables.peers, &group) {
         return Err(format!("no PE outside the group lists a member: {}", breach(tables, &group)));
     }
     let own = files.each_ref().map(|file| own(file, &group));

@@ -3,33 +3,27 @@ use endpoints;
 use kinds::answer::Answer;
 use kinds::lookup::Hit;
 use kinds::lookup::Owner;
-use kinds::outcome::Effect;
-use kinds::outcome::Outcome;
-use kinds::record::Sizes;
+use kinds::outcome::Check;
 use mmio;
 use outcomes;
 use owners;
 ghost use mathlib.Core.Path.{_≡_};
-ghost use mathlib.Core.List.{[]};
+ghost use Rattle.kinds.specs.Checked.{shown, Kept};
+ghost use Rattle.kinds.specs.Words.{at};
+ghost use Rattle.owners.specs.ByOwner.{byOwner};
+ghost use Rattle.profile.specs.Freeze.{stopWord};
 ghost use Rattle.profile.specs.Owner.{ofHit};
-ghost use Rattle.owners.specs.Known.{known};
-ghost use Rattle.accesses.specs.ByValue.{accessedBy};
-ghost use Rattle.sizes.specs.Tables.{tables};
+ghost use Rattle.profile.specs.Step.{accessed};
 
 // The owner of the window decides; `stopped` is the answer where its PE is MMIO stopped.
-pub fn access_of(sizes: Sizes, state: &[u64], hit: Hit, stopped: Answer) -> Outcome
-    ensures { λ r. ⌜ r ≡ accessedBy (known sizes (ofHit (tables sizes [] [] [] [] []) hit)) hit (now (state .entry)) stopped ⌝ }
+pub fn access_of(pes: u16, state: &[u64], hit: Hit, stopped: Answer) -> Check
+    ensures { λ r. ⌜ r ≡ shown (byOwner (λ p. Kept (accessed hit p (at (now (state .entry)) (stopWord p)) stopped)) (ofHit pes hit)) ⌝ }
 {
-    match owners::of_hit(sizes, hit) {
+    match owners::of_hit(pes, hit) {
         Owner::Of(pe) => {
             let stop = endpoints::stop_word(state, pe);
-            return Outcome {
-                answer: mmio::access(hit, pe, stop, stopped),
-                effect: Effect::Keep,
-            };
+            outcomes::kept(mmio::access(hit, pe, stop, stopped))
         }
-        Owner::Nobody(reason) => {
-            return outcomes::refused(reason);
-        }
+        Owner::Nobody(reason) => outcomes::refuse(reason),
     }
 }

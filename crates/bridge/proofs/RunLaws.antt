@@ -1,6 +1,5 @@
--- What `unnamed`, `reply`, `serve` and `run` are proved from. Assumes nothing.
-use mathlib.Core.Path.{_≡_, refl, sym, ap, _∙_}
-use mathlib.Core.Bool.{Bool, true, false}
+-- What `serve` and `run` are proved from. Assumes nothing.
+use mathlib.Core.Path.{_≡_, sym, ap, _∙_}
 use mathlib.Core.List.{List}
 use Prim.Native.Nat.{ℕ, _+_, _*_, _/_, _≤_, _<_, min}
 use native.Mathlib.Nat.{min-eq-left, min-eq-right, min-le-left, min-le-right}
@@ -8,44 +7,23 @@ use native.Mathlib.Numerals.{add-one}
 use native.Mathlib.Omega.{arith}
 use lib.ListN.{length}
 use Rattle.kinds.specs.declared.answer.Answer.{Answer}
-use Rattle.kinds.specs.declared.answer.Answer.the-variants.{Refuse}
-use Rattle.kinds.specs.declared.answer.Reason.the-variants.{TableLength, BadRequest}
 use Rattle.kinds.specs.declared.request.Request.{Request}
 use Rattle.isolation.specs.Isolation.{isolation}
-use Rattle.profile.specs.Tables.{Tables, Live, lengths, sized}
+use Rattle.profile.specs.Tables.{Tables, Live}
 use Rattle.layout.specs.Layout.{requestWords, answerWords, decodedAt, requestIn, written, writtenIn}
 use Rattle.layout.specs.LayoutLaws.{request-in, written-in}
-use Rattle.bridge.specs.Promise.{Handled, Replied, RanAll}
+use Rattle.bridge.specs.Promise.{Handled, RanAll}
 use Rattle.runs.specs.RunIsolation.{run-isolation}
-use Rattle.runs.specs.Run.{answeredAs, afterAs, RunState, runState, ranOne, ranTo, served}
+use Rattle.runs.specs.RunOfList.{run-of-list}
+use Rattle.runs.specs.Run.{RunState, runState, ranOne, ranTo, served}
 use Rattle.sizes.specs.Tables.{live}
-use Rattle.layout.specs.declared.Decoded.{Decoded}
-use Rattle.layout.specs.declared.Decoded.the-variants.{Named, Unnamed}
-
-module _ (f : Tables) (m : List ℕ) (s : Live) {ok : Bool} (i : ok ≡ sized (f .sizes) (lengths f (length m) s)) where
-  pub unnamed-bad : ok ≡ true → Refuse BadRequest 0 ≡ answeredAs f m s Unnamed
-  unfolding answeredAs
-  unnamed-bad o = rw (← i, o)
-
-  pub unnamed-one : ok ≡ false → Refuse TableLength 0 ≡ answeredAs f m s Unnamed
-  unfolding answeredAs
-  unnamed-one o = rw (← i, o)
-
-module _ (f : Tables) (m : List ℕ) (s : Live) {d : Decoded} {a : Answer} where
-  pub named-replied : {q : Request} {t : Live} → d ≡ Named q → Handled f m s q a t → Replied f m s d a t
-  unfolding answeredAs afterAs
-  named-replied i h = rw i (record { answers = h .answers; leaves = h .leaves })
-
-  pub unnamed-replied : d ≡ Unnamed → a ≡ answeredAs f m s Unnamed → Replied f m s d a s
-  unfolding afterAs
-  unnamed-replied i h = rw i (record { answers = h; leaves = refl })
 
 -- one request, served
-pub one-served : (f : Tables) (m w t i l : List ℕ) (k : ℕ) {d : Decoded} {a : Answer} {t′ i′ l′ : List ℕ} → k * requestWords + requestWords ≤ length w
-    → k * answerWords + answerWords ≤ length l → d ≡ requestIn w k → Replied f m (live t i) d a (live t′ i′) → l′ ≡ writtenIn l k a
+pub one-served : (f : Tables) (m w t i l : List ℕ) (k : ℕ) {q : Request} {a : Answer} {t′ i′ l′ : List ℕ} → k * requestWords + requestWords ≤ length w
+    → k * answerWords + answerWords ≤ length l → q ≡ requestIn w k → Handled f m (live t i) q a (live t′ i′) → l′ ≡ writtenIn l k a
     → runState t′ i′ l′ ≡ ranOne f m w (runState t i l) k
-one-served f m w t i l k {d = d} {a = a} {l′ = l′} g h e r n =
-    let asked : d ≡ decodedAt w k = e ∙ request-in w k g in
+one-served f m w t i l k {q = q} {a = a} {l′ = l′} g h e r n =
+    let asked : q ≡ decodedAt w k = e ∙ request-in w k g in
     let told : l′ ≡ written l k a = n ∙ written-in l k a h in
     rw (told, r .leaves, r .answers, asked)
 
@@ -77,4 +55,4 @@ module _ (f : Tables) (m w : List ℕ) (s : Live) (l₀ : List ℕ) where
   all-ran {n = n} {k = k} e a b h =
       let z : k ≡ served w l₀ = omega (arith, e) in
       let r = rw z at h in
-      record { count = e; leaves = ap (λ (x : RunState). x .live) r; answers = ap (λ (x : RunState). x .answers) r; isolation = isolation; words-isolation = run-isolation }
+      record { count = e; leaves = ap (λ (x : RunState). x .live) r; answers = ap (λ (x : RunState). x .answers) r; isolation = isolation; words-isolation = run-isolation; of-list = run-of-list }

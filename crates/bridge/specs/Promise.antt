@@ -1,27 +1,23 @@
 -- What the entry points promise.
 --     Handled f m s q a t     request q was answered a and left t: as the definition says, and isolation holds of that definition (of `step`)
---     Replied f m s d a t     what the words of a request name, d, was answered a and left t: as the definition says
 --     RanAll f m w s l n t k  of the request words w, n were served on s; t is what they left, and k the answer words that were l: as the definition
---                             says, and isolation holds of that definition, for requests and for their words
+--                             says. By it the words of a list of requests are served as the list, and isolation holds of it, for requests and for
+--                             their words
 -- Assumes nothing.
 use mathlib.Core.Path.{_≡_}
 use mathlib.Core.List.{List}
 use Prim.Native.Nat.{ℕ}
-use Rattle.kinds.specs.declared.answer.Answer.{Answer}
 use Rattle.isolation.specs.Isolation.{Isolation}
-use Rattle.layout.specs.declared.Decoded.{Decoded}
 use Rattle.profile.specs.Tables.{Tables, Live}
-use Rattle.runs.specs.Run.{answeredAs, afterAs, served, ranTo}
+use Rattle.runs.specs.Run.{served, ranTo}
 use Rattle.runs.specs.RunIsolation.{RunIsolation}
+use Rattle.runs.specs.RunOfList.{RunOfList}
 pub use Rattle.step.specs.Promise.{Handled}
-
-pub record Replied (f : Tables) (m : List ℕ) (s : Live) (d : Decoded) (a : Answer) (t : Live) : Type 0 where
-  pub answers : a ≡ answeredAs f m s d
-  pub leaves : t ≡ afterAs f m s d
 
 pub record RanAll (f : Tables) (m w : List ℕ) (s : Live) (l : List ℕ) (n : ℕ) (t : Live) (k : List ℕ) : Type 0 where
   pub count : n ≡ served w l
   pub leaves : t ≡ ranTo f m w s l (served w l) .live
   pub answers : k ≡ ranTo f m w s l (served w l) .answers
+  pub of-list : RunOfList
   pub isolation : Isolation
   pub words-isolation : RunIsolation

@@ -1,29 +1,58 @@
--- What `by_requester` is proved from. Assumes nothing.
-use mathlib.Core.Path.{_≡_, sym, _∙_}
-use mathlib.Core.List.{List, []}
+-- What `check`, `finish` and `decide` are proved from. Assumes nothing.
+use mathlib.Core.Path.{_≡_, refl, sym, ap, _∙_}
+use mathlib.Core.Bool.{Bool, true, false}
+use mathlib.Core.List.{List}
 use Prim.Native.Nat.{ℕ}
-use Rattle.kinds.specs.Words.{at}
-use Rattle.kinds.specs.declared.lookup.Owner.{Owner}
-use Rattle.kinds.specs.declared.lookup.Owner.the-variants.{Of}
-use Rattle.kinds.specs.declared.number.ByteAddress.{ByteAddress}
-use Rattle.kinds.specs.declared.number.PeNumber.{PeNumber}
+use native.Mathlib.Omega.{arith}
+use mir.Syntax.{w16}
+use mir.Val.{Fits}
+use lib.ListN.{length}
+use Rattle.kinds.specs.Checked.{Kept, Walk, shown}
+use Rattle.kinds.specs.declared.answer.Answer.the-variants.{Refuse}
+use Rattle.kinds.specs.declared.answer.Reason.the-variants.{TableLength, BadRequest}
+use Rattle.kinds.specs.declared.outcome.Check.{Check}
 use Rattle.kinds.specs.declared.outcome.Outcome.{Outcome}
+use Rattle.kinds.specs.declared.record.Lengths.{Lengths}
 use Rattle.kinds.specs.declared.record.Sizes.{Sizes}
-use Rattle.kinds.specs.declared.request.Direction.{Direction}
-use Rattle.kinds.specs.declared.request.Request.the-variants.{Dma}
-use Rattle.dma.specs.ByValue.{dmaOf}
-use Rattle.dma.specs.ByValueLaws.{dma-is}
-use Rattle.owners.specs.Known.{known}
-use Rattle.profile.specs.Freeze.{stopWord}
-use Rattle.profile.specs.Owner.{owner, ofRequester}
-use Rattle.firmware_requests.specs.Promise.{settledOn}
-use Rattle.sizes.specs.Tables.{tables, live}
-use Rattle.firmware_requests.specs.PromiseLaws.{of-owner}
+use Rattle.kinds.specs.declared.request.Request.{Request}
+use Rattle.profile.specs.Owner.{ownerIn}
+use Rattle.profile.specs.Step.{formed, asked, checked, finish, checkedOn, decided}
+use Rattle.profile.specs.Tables.{Tables, Live, sized}
+use Rattle.sizes.specs.SizedLaws.{sized-pes}
+use Rattle.decision.specs.Finished.{finished}
+use Rattle.decision.specs.FinishedLaws.{finished-is}
 
--- a DMA of the PE of its requester
-pub dma-owned : (z : Sizes) (q e m t l : List ℕ) (r : ℕ) (d : Direction) (a : ByteAddress) (n v : ℕ) {o : Owner} {p : PeNumber} {x : Outcome}
-    → o ≡ known z (ofRequester (tables z q [] [] [] []) r) → o ≡ Of p → x ≡ dmaOf z e m l (at t (stopWord p)) p d a n v
-    → x ≡ settledOn (tables z q e [] [] []) m (live t l) (Dma r d a n v)
-unfolding owner
-dma-owned z q e m t l r d a n v {p = p} h i k =
-    of-owner (tables z q e [] [] []) m (live t l) (Dma r d a n v) h i (k ∙ sym (dma-is (tables z q e [] [] []) m (live t l) p r d a n v))
+-- `check`
+pub pes-fits : (z : Sizes) (l : Lengths) {ok : Bool} → ok ≡ sized z l → ok ≡ true → Fits w16 (z .pes)
+pes-fits z l i o = omega (arith, sized-pes z l (rw i at o))
+
+pub form-good : (y : Request) {good : Bool} → good ≡ formed y → good ≡ true → formed y ≡ true
+form-good y g h = rw g at h
+
+module _ (z : Sizes) (n : Lengths) (r e w g : List ℕ) (s : Live) (y : Request) {ok : Bool} (i : ok ≡ sized z n) where
+  pub checked-asked : {good : Bool} {x : Check} → ok ≡ true → good ≡ formed y → good ≡ true
+      → x ≡ shown (asked z r e w g s y (ownerIn z r w g (s .interrupts) y)) → x ≡ shown (checked z r e w g s (sized z n) y)
+  unfolding checked
+  checked-asked o f h x = x ∙ rw (← i, o, ← f, h)
+
+  pub checked-formed : {good : Bool} {x : Check} → ok ≡ true → good ≡ formed y → good ≡ false → x ≡ shown (Kept (Refuse BadRequest 0))
+      → x ≡ shown (checked z r e w g s (sized z n) y)
+  unfolding checked
+  checked-formed o f h x = x ∙ rw (← i, o, ← f, h)
+
+  pub checked-sized : {x : Check} → ok ≡ false → x ≡ shown (Kept (Refuse TableLength 0)) → x ≡ shown (checked z r e w g s (sized z n) y)
+  unfolding checked
+  checked-sized o x = x ∙ rw (← i, o)
+
+-- `finish`
+module _ (m : List ℕ) (c : Check) where
+  pub finish-walk : {o : Outcome} → c .walks ≡ true → o ≡ finish m (Walk (c .pe) (c .entry) (c .dma)) → o ≡ finished m c
+  finish-walk h f = f ∙ rw h
+
+  pub finish-known : c .walks ≡ false → c .outcome ≡ finished m c
+  finish-known h = rw h
+
+-- `decide`
+pub decided-is : (f : Tables) (m : List ℕ) (s : Live) (y : Request) {c : Check} {o : Outcome} → c ≡ shown (checkedOn f (length m) s y) → o ≡ finished m c
+    → o ≡ decided f m s y
+decided-is f m s y h k = k ∙ rw h (finished-is m (checkedOn f (length m) s y))

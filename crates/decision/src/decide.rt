@@ -6,12 +6,14 @@ use forms;
 use kinds::answer::Answer;
 use kinds::answer::Reason;
 use kinds::lookup::Owner;
-use kinds::number::ByteAddress;
+use kinds::number::PeNumber;
+use kinds::outcome::Check;
 use kinds::outcome::Effect;
+use kinds::outcome::ErrorRecord;
 use kinds::outcome::Outcome;
 use kinds::record::Lengths;
 use kinds::record::Sizes;
-use kinds::request::Direction;
+use kinds::request::DmaRequest;
 use kinds::request::Request;
 use mmio;
 use outcomes;
@@ -20,129 +22,164 @@ use sizes;
 use windows;
 ghost use mathlib.Core.Path.{_≡_};
 ghost use mathlib.Core.Bool.{true};
-ghost use mathlib.Core.List.{[]};
-ghost use Rattle.kinds.specs.declared.request.Request.the-variants.{Dma, Error};
-ghost use Rattle.profile.specs.Step.{formed, decided};
-ghost use Rattle.firmware_requests.specs.Promise.{settledOn};
+ghost use Rattle.kinds.specs.Checked.{shown};
+ghost use Rattle.profile.specs.Owner.{ofRequester, ownerIn};
+ghost use Rattle.profile.specs.Step.{formed, asked, checked, decided};
+ghost use Rattle.profile.specs.Tables.{sized};
+ghost use Rattle.owners.specs.ByOwner.{byOwner};
 ghost use Rattle.sizes.specs.Tables.{tables, live};
+ghost use Rattle.decision.specs.ByRequester.{dmaOf, messageOf};
+ghost use Rattle.decision.specs.Finished.{finished};
 
-// A DMA, by its requester.
+// A DMA, by its requester. N, M and R come first.
 fn by_requester(
-    sizes: Sizes,
+    pes: u16,
+    interrupt: u64,
+    count: u64,
     requesters: &[u16],
     entries: &[u64],
-    memory: &[u64],
     interrupts: &[u64],
     state: &[u64],
-    requester: u64,
-    direction: Direction,
-    address: ByteAddress,
-    length: u64,
-    data: u32,
-) -> Outcome
-    ensures { λ r. ⌜ r ≡ settledOn (tables sizes (now (requesters .entry)) (now (entries .entry)) [] [] []) (now (memory .entry)) (live (now (state .entry)) (now (interrupts .entry))) (Dma requester direction address length «data») ⌝ }
+    dma: DmaRequest,
+) -> Check
+    ensures { λ r. ⌜ r ≡ shown (byOwner (dmaOf interrupt (now (entries .entry)) (now (interrupts .entry)) (now (state .entry)) dma) (ofRequester pes count (now (requesters .entry)) (dma .requester))) ⌝ }
 {
-    match owners::of_requester(sizes, requesters, requester) {
+    match owners::of_requester(pes, count, requesters, dma.requester) {
         Owner::Of(pe) => {
-            return dma::dma_of(
-                sizes,
-                entries,
-                memory,
-                interrupts,
-                state,
-                pe,
-                direction,
-                address,
-                length,
-                data,
-            );
+            return dma::check_dma(interrupt, entries, interrupts, state, pe, dma);
         }
         Owner::Nobody(reason) => {
-            return outcomes::refused(reason);
+            return outcomes::refuse(reason);
         }
     }
 }
 
-// An error message, by its requester.
-fn error(sizes: Sizes, requesters: &[u16], requester: u64) -> Outcome
-    ensures { λ r. ⌜ r ≡ settledOn (tables sizes (now (requesters .entry)) [] [] [] []) [] (live [] []) (Error requester) ⌝ }
+// An error message of a PE, with its requester.
+fn message(pe: PeNumber, requester: u64) -> Check
+    ensures { λ r. ⌜ r ≡ shown (messageOf requester pe) ⌝ }
 {
-    match owners::of_requester(sizes, requesters, requester) {
-        Owner::Of(_) => {
-            return outcomes::done(Effect::Freeze {
-                reason: Reason::ErrorMessage,
-                value: requester,
-            });
-        }
-        Owner::Nobody(reason) => {
-            return outcomes::refused(reason);
-        }
-    }
+    let error = ErrorRecord {
+        reason: Reason::ErrorMessage,
+        value: requester,
+    };
+    let outcome = outcomes::done(Effect::Freeze { error, peers: true });
+    outcomes::ready(pe, outcome)
 }
 
-// A request that is well formed.
-fn settle(
+// A request that is well formed. `pes` is N.
+fn ask(
+    pes: u16,
     sizes: Sizes,
     requesters: &[u16],
     entries: &[u64],
-    memory: &[u64],
-    peers: &[u64],
     interrupts: &[u64],
     windows: &[u64],
     segments: &[u16],
     state: &[u64],
     request: Request,
-) -> Outcome
-    requires { ⌜ formed request ≡ true ⌝ }
-    ensures { λ r. ⌜ r ≡ settledOn (tables sizes (now (requesters .entry)) (now (entries .entry)) (now (peers .entry)) (now (windows .entry)) (now (segments .entry))) (now (memory .entry)) (live (now (state .entry)) (now (interrupts .entry))) request ⌝ }
+) -> Check
+    requires { ⌜ (formed request ≡ true) × (pes ≡ sizes .pes) ⌝ }
+    ensures { λ r. ⌜ r ≡ shown (asked sizes (now (requesters .entry)) (now (entries .entry)) (now (windows .entry)) (now (segments .entry)) (live (now (state .entry)) (now (interrupts .entry))) request (ownerIn sizes (now (requesters .entry)) (now (windows .entry)) (now (segments .entry)) (now (interrupts .entry)) request)) ⌝ }
 {
     match request {
-        Request::Dma {
-            requester,
-            direction,
-            address,
-            length,
-            data,
-        } => {
+        Request::Dma(dma) => {
             return by_requester(
-                sizes,
+                pes,
+                sizes.interrupts,
+                sizes.requesters,
                 requesters,
                 entries,
-                memory,
                 interrupts,
                 state,
-                requester,
-                direction,
-                address,
-                length,
-                data,
+                dma,
             );
         }
         Request::Load { address, width } => {
             let hit = windows::route(windows, segments, address);
             let value = mmio::ones(width);
-            return accesses::access_of(sizes, state, hit, Answer::Ones { value });
+            return accesses::access_of(pes, state, hit, Answer::Ones { value });
         }
         Request::Store { address, width: _ } => {
             let hit = windows::route(windows, segments, address);
-            return accesses::access_of(sizes, state, hit, Answer::Drop);
+            return accesses::access_of(pes, state, hit, Answer::Drop);
         }
         Request::Error { requester } => {
-            return error(sizes, requesters, requester);
+            match owners::of_requester(pes, sizes.requesters, requesters, requester) {
+                Owner::Nobody(reason) => {
+                    return outcomes::refuse(reason);
+                }
+                Owner::Of(pe) => {
+                    return message(pe, requester);
+                }
+            }
         }
         Request::Clear { pe, part } => {
-            return firmware_requests::clear(sizes, pe, part);
+            return firmware_requests::clear(pes, pe, part);
         }
         Request::End { interrupt } => {
-            return firmware_requests::end(sizes, interrupts, interrupt);
+            return firmware_requests::end(pes, sizes.interrupts, interrupts, interrupt);
         }
         Request::Priority {
             interrupt,
             priority,
         } => {
-            return firmware_requests::prioritize(sizes, interrupts, interrupt, priority);
+            return firmware_requests::prioritize(
+                pes,
+                sizes.interrupts,
+                interrupts,
+                interrupt,
+                priority,
+            );
+        }
+        Request::Unnamed => {
+            return outcomes::refuse(Reason::BadRequest);
         }
     }
+}
+
+// All checks before the walk. No memory is lent: its length is among the lengths.
+pub fn check(
+    sizes: Sizes,
+    lengths: Lengths,
+    requesters: &[u16],
+    entries: &[u64],
+    interrupts: &[u64],
+    windows: &[u64],
+    segments: &[u16],
+    state: &[u64],
+    request: Request,
+) -> Check
+    ensures { λ r. ⌜ r ≡ shown (checked sizes (now (requesters .entry)) (now (entries .entry)) (now (windows .entry)) (now (segments .entry)) (live (now (state .entry)) (now (interrupts .entry))) (sized sizes lengths) request) ⌝ }
+{
+    if sizes::sized(sizes, lengths) {
+        if forms::is_formed(request) {
+            return ask(
+                sizes.pes as u16,
+                sizes,
+                requesters,
+                entries,
+                interrupts,
+                windows,
+                segments,
+                state,
+                request,
+            );
+        }
+        return outcomes::refuse(Reason::BadRequest);
+    }
+    outcomes::refuse(Reason::TableLength)
+}
+
+// What is left after the checks: the walk, the only reader of memory.
+pub fn finish(memory: &[u64], check: Check) -> Outcome
+    ensures { λ r. ⌜ r ≡ finished (now (memory .entry)) check ⌝ }
+{
+    if check.walks {
+        let entry = check.entry;
+        let dma = check.dma;
+        return dma::finish_walk(memory, check.pe, entry, dma);
+    }
+    check.outcome
 }
 
 // The answer to a request and its effect, whatever the lengths of the tables.
@@ -170,22 +207,16 @@ pub fn decide(
         segments: segments.len() as u64,
         state: state.len() as u64,
     };
-    if sizes::sized(sizes, lengths) {
-        if forms::is_formed(request) {
-            return settle(
-                sizes,
-                requesters,
-                entries,
-                memory,
-                peers,
-                interrupts,
-                windows,
-                segments,
-                state,
-                request,
-            );
-        }
-        return outcomes::refused(Reason::BadRequest);
-    }
-    outcomes::refused(Reason::TableLength)
+    let checked = check(
+        sizes,
+        lengths,
+        requesters,
+        entries,
+        interrupts,
+        windows,
+        segments,
+        state,
+        request,
+    );
+    finish(memory, checked)
 }

@@ -1,73 +1,115 @@
 -- What the functions of `dma` are proved from. Assumes nothing.
-use mathlib.Core.Path.{_≡_, _∙_}
+use mathlib.Core.Path.{_≡_, refl, sym, ap, _∙_}
 use mathlib.Core.Bool.{Bool, true, false}
-use mathlib.Core.List.{List, []}
+use mathlib.Core.List.{List}
 use Prim.Native.Nat.{ℕ, _≤_, _<_}
 use borrow.Author.Tests.{lt-ltb, le-ltb}
-use Rattle.kinds.specs.Outcome.{refused, failed}
+use Rattle.kinds.specs.Checked.{Kept, Ready, Walk, shown}
+use Rattle.kinds.specs.Outcome.{passed, failed}
 use Rattle.kinds.specs.Words.{at}
-use Rattle.kinds.specs.declared.answer.Reason.the-variants.{DmaStopped, MsiRefused, AddressClass}
+use Rattle.kinds.specs.declared.answer.Answer.the-variants.{Refuse}
+use Rattle.kinds.specs.declared.answer.Reason.the-variants.{DmaStopped, BadEntry, OutsideWindow, MsiRefused, AddressClass}
+use Rattle.kinds.specs.declared.lookup.Translated.{Translated}
 use Rattle.kinds.specs.declared.number.ByteAddress.{ByteAddress}
+use Rattle.kinds.specs.declared.number.PageSize.{PageSize}
 use Rattle.kinds.specs.declared.number.PeNumber.{PeNumber}
+use Rattle.kinds.specs.declared.outcome.Check.{Check}
 use Rattle.kinds.specs.declared.outcome.Outcome.{Outcome}
 use Rattle.kinds.specs.declared.record.Interrupt.{Interrupt}
-use Rattle.kinds.specs.declared.record.Sizes.{Sizes}
 use Rattle.kinds.specs.declared.record.TranslationEntry.{TranslationEntry}
 use Rattle.kinds.specs.declared.request.AddressClass as classes
 use Rattle.kinds.specs.declared.request.AddressClass.the-variants as class
-use Rattle.kinds.specs.declared.request.Direction.{Direction}
-use Rattle.profile.specs.Entry.{classOf, half, entryIn}
+use Rattle.kinds.specs.declared.request.DmaRequest.{DmaRequest}
+use Rattle.profile.specs.Entry.{classOf, half, offset, entryIn}
 use Rattle.profile.specs.Freeze.{stopWord, dmaStopped}
 use Rattle.profile.specs.Msi.{interruptIn, number32, number64, msiFormed, delivered, msi}
-use Rattle.profile.specs.Walk.{translated}
-use Rattle.dma.specs.ByValue.{classed, dmaOf}
-use Rattle.sizes.specs.Tables.{tables, live}
+use Rattle.profile.specs.Step.{outcomeOf, byEntry, served, dmaAsked, finish}
+use Rattle.profile.specs.Walk.{byPages}
+use Rattle.entries.specs.Ask.{asked, ended}
+use Rattle.entries.specs.AskLaws.{isWalk, walked-walks, other-walks, other-ends}
+use Rattle.entries.specs.declared.ask.Way.{Way}
+use Rattle.entries.specs.declared.ask.Way as way-kinds
+use Rattle.entries.specs.declared.ask.Way.the-variants as way
+use Rattle.translation.specs.Turn.{summed}
+use Rattle.translation.specs.declared.translate.Translation.{Translation}
 
--- ---- an MSI
+-- `outcome_of`
+pub result-is : (p : PeNumber) (a : ByteAddress) (t : Translated) (n : ℕ) {y : Translated} {x : Outcome} → t ≡ y → x ≡ outcomeOf p a y n → x ≡ outcomeOf p a t n
+result-is p a t n z f = f ∙ rw z
 
-module _ (z : Sizes) (l : List ℕ) (p : PeNumber) (a : ByteAddress) (n : ℕ) {good : Bool} where
-  pub taken : {e : Interrupt} {x : Outcome} → good ≡ true → n < z .interrupts → e ≡ interruptIn l n → x ≡ delivered p a n e
-      → x ≡ msi (tables z [] [] [] [] []) (live [] l) p a n good
+-- `by_entry`
+module _ (e : TranslationEntry) (p : PeNumber) (q : DmaRequest) {o : ByteAddress} (cut : o ≡ offset (q .address)) {c : Way} (asks : c ≡ asked e o) where
+  at-offset : c ≡ asked e (offset (q .address))
+  at-offset = asks ∙ rw cut
+
+  pub by-walk : {s : PageSize} {y : Check} → c ≡ way.Walk s → y ≡ shown (Walk p e q) → y ≡ shown (byEntry e p q)
+  unfolding byEntry
+  by-walk z f = f ∙ rw (walked-walks e (offset (q .address)) at-offset z)
+
+  ends : {x : way-kinds.Way} → c ≡ x → isWalk x ≡ false → Ready p (outcomeOf p (q .address) (ended x (offset (q .address))) 0) ≡ byEntry e p q
+  unfolding byEntry
+  ends z n = rw (other-walks e (offset (q .address)) at-offset z n, other-ends e (offset (q .address)) at-offset z n)
+
+  module _ {x : Outcome} {y : Check} (made : y ≡ shown (Ready p x)) where
+    pub by-bypass : c ≡ way.Bypass → x ≡ passed p o 0 → y ≡ shown (byEntry e p q)
+    unfolding outcomeOf
+    by-bypass z f = made ∙ ap shown (ap (Ready p) (f ∙ rw cut) ∙ ends z refl)
+
+    pub by-bad : c ≡ way.BadEntry → x ≡ failed BadEntry (q .address) 0 → y ≡ shown (byEntry e p q)
+    unfolding outcomeOf
+    by-bad z f = made ∙ ap shown (ap (Ready p) f ∙ ends z refl)
+
+    pub by-outside : c ≡ way.OutsideWindow → x ≡ failed OutsideWindow (q .address) 0 → y ≡ shown (byEntry e p q)
+    unfolding outcomeOf
+    by-outside z f = made ∙ ap shown (ap (Ready p) f ∙ ends z refl)
+
+-- `deliver`
+module _ (k : ℕ) (l : List ℕ) (p : PeNumber) (q : DmaRequest) (i : ℕ) {good : Bool} (form : good ≡ msiFormed (q .direction) (q .address) (q .length)) {x : Outcome} where
+  pub taken : {e : Interrupt} → good ≡ true → i < k → e ≡ interruptIn l i → x ≡ delivered p (q .address) i e
+      → x ≡ msi k l p (q .address) i (msiFormed (q .direction) (q .address) (q .length))
   unfolding msi
-  taken g h e k = k ∙ rw (g, lt-ltb _ _ h, e)
+  taken g h e f = f ∙ rw (← form, g, lt-ltb _ _ h, e)
 
-  pub past-last : {x : Outcome} → good ≡ true → z .interrupts ≤ n → x ≡ failed MsiRefused a 0 → x ≡ msi (tables z [] [] [] [] []) (live [] l) p a n good
+  pub past-last : good ≡ true → k ≤ i → x ≡ failed MsiRefused (q .address) 0 → x ≡ msi k l p (q .address) i (msiFormed (q .direction) (q .address) (q .length))
   unfolding msi
-  past-last g h k = k ∙ rw (g, le-ltb _ _ h)
+  past-last g h f = f ∙ rw (← form, g, le-ltb _ _ h)
 
-  pub ill-formed : {x : Outcome} → good ≡ false → x ≡ failed MsiRefused a 0 → x ≡ msi (tables z [] [] [] [] []) (live [] l) p a n good
+  pub ill-formed : good ≡ false → x ≡ failed MsiRefused (q .address) 0 → x ≡ msi k l p (q .address) i (msiFormed (q .direction) (q .address) (q .length))
   unfolding msi
-  ill-formed g k = k ∙ rw g
+  ill-formed g f = f ∙ rw (← form, g)
 
--- ---- a DMA, by the class of its address
+-- `by_class`
+module _ (k : ℕ) (e l : List ℕ) (p : PeNumber) (q : DmaRequest) {c : classes.AddressClass} (h : c ≡ classOf (q .address)) where
+  class-case : {d : classes.AddressClass} {x : Check} → c ≡ d → x ≡ shown (served d k e l p q) → x ≡ shown (served (classOf (q .address)) k e l p q)
+  class-case i f = rw (← h, i) f
 
-module _ (z : Sizes) (e m l : List ℕ) (p : PeNumber) (d : Direction) (a : ByteAddress) (n v : ℕ) {c k : classes.AddressClass} {x : Outcome} (h : c ≡ classOf a) where
-  class-case : c ≡ k → x ≡ classed k z e m l p d a n v → x ≡ classed (classOf a) z e m l p d a n v
-  class-case i g = rw (← h, i) g
+  pub by-table : {r : TranslationEntry} {x : Check} → c ≡ class.Dma → r ≡ entryIn e p (half (q .address)) → x ≡ shown (byEntry r p q)
+      → x ≡ shown (served (classOf (q .address)) k e l p q)
+  by-table i r f = class-case i (unfold served in rw (← r) f)
 
-module _ (z : Sizes) (e m l : List ℕ) (p : PeNumber) (d : Direction) (a : ByteAddress) (n v : ℕ) {c : classes.AddressClass} {x : Outcome} (h : c ≡ classOf a) where
-  pub by-table : {r : TranslationEntry} → c ≡ class.Dma → r ≡ entryIn e p (half a) → x ≡ translated m r p d a → x ≡ classed (classOf a) z e m l p d a n v
-  by-table i r k = class-case z e m l p d a n v h i (unfold classed in rw (← r) k)
+  -- the number of an MSI is that which its window gives
+  module _ {i : ℕ} {x : Outcome} {y : Check} (made : y ≡ shown (Ready p x)) (f : x ≡ msi k l p (q .address) i (msiFormed (q .direction) (q .address) (q .length))) where
+    pub by-msi32 : c ≡ class.Msi32 → i ≡ number32 (q .address) (q .«data») → y ≡ shown (served (classOf (q .address)) k e l p q)
+    by-msi32 o n = class-case o (unfold served in rw (← n) (made ∙ ap (λ (u : Outcome). shown (Ready p u)) f))
 
-  -- the number of an MSI and its form are those that its window gives
-  module _ {i : ℕ} {good : Bool} (k : x ≡ msi (tables z [] [] [] [] []) (live [] l) p a i good) (g : good ≡ msiFormed d a n) where
-    pub by-msi32 : c ≡ class.Msi32 → i ≡ number32 a v → x ≡ classed (classOf a) z e m l p d a n v
-    by-msi32 o q = class-case z e m l p d a n v h o (unfold classed in rw (← q, ← g) k)
+    pub by-msi64 : c ≡ class.Msi64 → i ≡ number64 (q .address) (q .«data») → y ≡ shown (served (classOf (q .address)) k e l p q)
+    by-msi64 o n = class-case o (unfold served in rw (← n) (made ∙ ap (λ (u : Outcome). shown (Ready p u)) f))
 
-    pub by-msi64 : c ≡ class.Msi64 → i ≡ number64 a v → x ≡ classed (classOf a) z e m l p d a n v
-    by-msi64 o q = class-case z e m l p d a n v h o (unfold classed in rw (← q, ← g) k)
+  pub by-none : {x : Outcome} {y : Check} → y ≡ shown (Ready p x) → c ≡ class.Unserved → x ≡ failed AddressClass (q .address) 0 → y ≡ shown (served (classOf (q .address)) k e l p q)
+  by-none made i f = class-case i (unfold served in made ∙ ap (λ (u : Outcome). shown (Ready p u)) f)
 
-  pub by-none : c ≡ class.Unserved → x ≡ failed AddressClass a 0 → x ≡ classed (classOf a) z e m l p d a n v
-  by-none i k = class-case z e m l p d a n v h i (unfold classed in k)
+-- `check_dma`
+module _ (k : ℕ) (e l t : List ℕ) (p : PeNumber) (q : DmaRequest) {w : ℕ} {o : Bool} (h : w ≡ at t (stopWord p)) (i : o ≡ dmaStopped w) where
+  pub stopped : {x : Check} → o ≡ true → x ≡ shown (Kept (Refuse DmaStopped 0)) → x ≡ shown (dmaAsked k e l (at t (stopWord p)) p q)
+  unfolding dmaAsked
+  stopped z f = f ∙ rw (← h, ← i, z)
 
--- ---- a DMA, by the stop word of its PE
+  pub running : {x : Check} → o ≡ false → x ≡ shown (served (classOf (q .address)) k e l p q) → x ≡ shown (dmaAsked k e l (at t (stopWord p)) p q)
+  unfolding dmaAsked
+  running z f = f ∙ rw (← h, ← i, z)
 
-module _ (z : Sizes) (e m l t : List ℕ) (p : PeNumber) (d : Direction) (a : ByteAddress) (n v : ℕ) {w : ℕ} {o : Bool} {x : Outcome}
-    (h : w ≡ at t (stopWord p)) (i : o ≡ dmaStopped w) where
-  pub dma-stopped : o ≡ true → x ≡ refused DmaStopped → x ≡ dmaOf z e m l (at t (stopWord p)) p d a n v
-  unfolding dmaOf
-  dma-stopped k g = g ∙ rw (← h, ← i, k)
-
-  pub dma-served : o ≡ false → x ≡ classed (classOf a) z e m l p d a n v → x ≡ dmaOf z e m l (at t (stopWord p)) p d a n v
-  unfolding dmaOf
-  dma-served k g = g ∙ rw (← h, ← i, k)
+-- `finish_walk`
+pub finished : (m : List ℕ) (p : PeNumber) (e : TranslationEntry) (q : DmaRequest) {o : ByteAddress} {t : Translation} {x : Outcome}
+    → o ≡ offset (q .address) → t ≡ summed (byPages m e (q .direction) o) → x ≡ outcomeOf p (q .address) (t .result) (t .words) → x ≡ finish m (Walk p e q)
+unfolding finish
+finished m p e q cut tr f = f ∙ rw (tr, cut)

@@ -1,39 +1,73 @@
-// A DMA of a PE: what it comes to by the stop bits of the PE and the class of its address.
+// A DMA of a PE: what it comes to before memory is read, by the stop bits of the PE, the class of its address and the entry that it picks, and what the
+// walk of its page makes of it.
 use addresses;
 use endpoints;
+use entries::ask;
+use entries::ask::Way;
 use interrupts;
 use kinds::answer::Reason;
+use kinds::lookup::Translated;
 use kinds::number::ByteAddress;
 use kinds::number::PeNumber;
+use kinds::outcome::Check;
 use kinds::outcome::Outcome;
-use kinds::record::Sizes;
+use kinds::record::TranslationEntry;
 use kinds::request::AddressClass;
-use kinds::request::Direction;
+use kinds::request::DmaRequest;
 use msi;
 use outcomes;
 use translation::translate;
 ghost use mathlib.Core.Path.{_≡_};
-ghost use mathlib.Core.List.{[]};
+ghost use Rattle.kinds.specs.Checked.{shown, Walk};
 ghost use Rattle.kinds.specs.Words.{at};
 ghost use Rattle.profile.specs.Entry.{classOf};
 ghost use Rattle.profile.specs.Freeze.{stopWord};
-ghost use Rattle.profile.specs.Msi.{msi};
-ghost use Rattle.dma.specs.ByValue.{classed, dmaOf};
-ghost use Rattle.sizes.specs.Tables.{tables, live};
+ghost use Rattle.profile.specs.Msi.{msi, msiFormed};
+ghost use Rattle.profile.specs.Step.{outcomeOf, byEntry, served, dmaAsked, finish};
 
-// An MSI of a PE, with its number; `good` says whether it is of good form.
-fn deliver_msi(
-    sizes: Sizes,
-    interrupts: &[u64],
-    pe: PeNumber,
-    address: ByteAddress,
-    number: u64,
-    good: bool,
-) -> Outcome
-    ensures { λ r. ⌜ r ≡ msi (tables sizes [] [] [] [] []) (live [] (now (interrupts .entry))) pe address number good ⌝ }
+// The outcome by what a translation gave, with the count of words that it read.
+fn outcome_of(pe: PeNumber, address: ByteAddress, result: Translated, words: u64) -> Outcome
+    ensures { λ r. ⌜ r ≡ outcomeOf pe address result words ⌝ }
 {
-    if good {
-        if number < sizes.interrupts {
+    match result {
+        Translated::To(to) => outcomes::passed(pe, to, words),
+        Translated::Fault { reason, place: _ } => outcomes::failed(reason, address, words),
+    }
+}
+
+// By the entry that the address picks.
+fn by_entry(entry: TranslationEntry, pe: PeNumber, dma: DmaRequest) -> Check
+    ensures { λ r. ⌜ r ≡ shown (byEntry entry pe dma) ⌝ }
+{
+    let address = dma.address;
+    let offset = addresses::offset_of(address);
+    match ask::ask(entry, offset) {
+        Way::Walk(_) => {
+            return outcomes::walk(pe, entry, dma);
+        }
+        Way::Bypass => {
+            let outcome = outcomes::passed(pe, offset, 0);
+            return outcomes::ready(pe, outcome);
+        }
+        Way::BadEntry => {
+            let outcome = outcomes::failed(Reason::BadEntry, address, 0);
+            return outcomes::ready(pe, outcome);
+        }
+        Way::OutsideWindow => {
+            let outcome = outcomes::failed(Reason::OutsideWindow, address, 0);
+            return outcomes::ready(pe, outcome);
+        }
+    }
+}
+
+// An MSI of a PE, with its number.
+fn deliver(count: u64, interrupts: &[u64], pe: PeNumber, dma: DmaRequest, number: u64) -> Outcome
+    ensures { λ r. ⌜ r ≡ msi count (now (interrupts .entry)) pe (dma .address) number (msiFormed (dma .direction) (dma .address) (dma .length)) ⌝ }
+{
+    let address = dma.address;
+    let direction = dma.direction;
+    if msi::msi_formed(direction, address, dma.length) {
+        if number < count {
             let record = interrupts::interrupt_at(interrupts, number);
             return msi::deliver(pe, address, number, record);
         }
@@ -43,68 +77,62 @@ fn deliver_msi(
 }
 
 // A DMA of a PE that is not stopped, by the class of its address.
-fn dma_by_class(
-    sizes: Sizes,
-    entries: &[u64],
-    memory: &[u64],
-    interrupts: &[u64],
-    pe: PeNumber,
-    direction: Direction,
-    address: ByteAddress,
-    length: u64,
-    data: u32,
-) -> Outcome
-    ensures { λ r. ⌜ r ≡ classed (classOf address) sizes (now (entries .entry)) (now (memory .entry)) (now (interrupts .entry)) pe direction address length «data» ⌝ }
+fn by_class(count: u64, entries: &[u64], interrupts: &[u64], pe: PeNumber, dma: DmaRequest) -> Check
+    ensures { λ r. ⌜ r ≡ shown (served (classOf (dma .address)) count (now (entries .entry)) (now (interrupts .entry)) pe dma) ⌝ }
 {
+    let address = dma.address;
     match addresses::class_of(address) {
         AddressClass::Dma => {
-            let entry = addresses::entry_of(entries, pe, address);
-            return translate::translate(memory, entry, pe, direction, address);
+            return by_entry(addresses::entry_of(entries, pe, address), pe, dma);
         }
         AddressClass::Msi32 => {
-            let number = msi::msi_number32(address, data);
-            let good = msi::msi_formed(direction, address, length);
-            return deliver_msi(sizes, interrupts, pe, address, number, good);
+            let number = msi::msi_number32(address, dma.data);
+            let outcome = deliver(count, interrupts, pe, dma, number);
+            return outcomes::ready(pe, outcome);
         }
         AddressClass::Msi64 => {
-            let number = msi::msi_number64(address, data);
-            let good = msi::msi_formed(direction, address, length);
-            return deliver_msi(sizes, interrupts, pe, address, number, good);
+            let number = msi::msi_number64(address, dma.data);
+            let outcome = deliver(count, interrupts, pe, dma, number);
+            return outcomes::ready(pe, outcome);
         }
         AddressClass::Unserved => {
-            return outcomes::failed(Reason::AddressClass, address, 0);
+            let outcome = outcomes::failed(Reason::AddressClass, address, 0);
+            return outcomes::ready(pe, outcome);
         }
     }
 }
 
-// A DMA of a PE.
-pub fn dma_of(
-    sizes: Sizes,
+// A DMA of a PE, as far as no memory is read. M comes first.
+pub fn check_dma(
+    count: u64,
     entries: &[u64],
-    memory: &[u64],
     interrupts: &[u64],
     state: &[u64],
     pe: PeNumber,
-    direction: Direction,
-    address: ByteAddress,
-    length: u64,
-    data: u32,
-) -> Outcome
-    ensures { λ r. ⌜ r ≡ dmaOf sizes (now (entries .entry)) (now (memory .entry)) (now (interrupts .entry)) (at (now (state .entry)) (stopWord pe)) pe direction address length «data» ⌝ }
+    dma: DmaRequest,
+) -> Check
+    ensures { λ r. ⌜ r ≡ shown (dmaAsked count (now (entries .entry)) (now (interrupts .entry)) (at (now (state .entry)) (stopWord pe)) pe dma) ⌝ }
 {
     let stop = endpoints::stop_word(state, pe);
     if endpoints::dma_stopped(stop) {
-        return outcomes::refused(Reason::DmaStopped);
+        return outcomes::refuse(Reason::DmaStopped);
     }
-    dma_by_class(
-        sizes,
-        entries,
-        memory,
-        interrupts,
-        pe,
-        direction,
-        address,
-        length,
-        data,
-    )
+    by_class(count, entries, interrupts, pe, dma)
+}
+
+// A DMA of a PE by the walk of its page: the only reader of memory.
+pub fn finish_walk(
+    memory: &[u64],
+    pe: PeNumber,
+    entry: TranslationEntry,
+    dma: DmaRequest,
+) -> Outcome
+    ensures { λ r. ⌜ r ≡ finish (now (memory .entry)) (Walk pe entry dma) ⌝ }
+{
+    let address = dma.address;
+    let direction = dma.direction;
+    let offset = addresses::offset_of(address);
+    let translation = translate::translate(memory, entry, direction, offset);
+    let result = translation.result;
+    outcome_of(pe, address, result, translation.words)
 }

@@ -10,7 +10,7 @@ use Rattle.kinds.specs.Tests.{by-cases}
 use Rattle.kinds.specs.declared.number.ByteAddress.{ByteAddress}
 use Rattle.kinds.specs.declared.number.PageSize.{PageSize}
 use Rattle.kinds.specs.declared.record.TranslationEntry.{TranslationEntry}
-use Rattle.profile.specs.Entry.{offset, pageSize, span, tableGood, bypassGood, pagesGood, inBypass}
+use Rattle.profile.specs.Entry.{pageSize, span, tableGood, bypassGood, pagesGood, inBypass}
 use Rattle.page_tables.specs.Shape.{shapeOf}
 use Rattle.page_tables.specs.declared.Shape.{Shape}
 use Rattle.page_tables.specs.declared.Shape.the-variants.{Pages, Bad}
@@ -38,44 +38,44 @@ module _ (e : TranslationEntry) (o : ByteAddress) where
     unfolding inBypass
     inside h = rw (le-leb (e .base * 2 ^ 24) (o .0) (omega arith), lt-ltb (o .0) (e .levels * 2 ^ 24) (omega arith))
 
-module _ (e : TranslationEntry) (a : ByteAddress) where
-  pub no-range : e .levels ≤ e .base → BadEntry ≡ askedBypass e a
+module _ (e : TranslationEntry) (o : ByteAddress) where
+  pub no-range : e .levels ≤ e .base → BadEntry ≡ askedBypass e o
   unfolding bypassGood
   no-range h = rw (le-ltb _ _ h)
 
   module _ (some : e .base < e .levels) where
-    pub late-end : 2 ^ 35 < e .levels → BadEntry ≡ askedBypass e a
+    pub late-end : 2 ^ 35 < e .levels → BadEntry ≡ askedBypass e o
     unfolding bypassGood
     late-end h = rw (lt-ltb _ _ some, lt-leb _ _ h)
 
-    module _ (most : e .levels ≤ 2 ^ 35) {o : ByteAddress} (cut : o ≡ offset a) where
-      pub below-start : o .0 / 2 ^ 24 < e .base → OutsideWindow ≡ askedBypass e a
-      below-start h = rw (good-range e some most, below e (offset a) (rw cut at h))
+    module _ (most : e .levels ≤ 2 ^ 35) where
+      pub below-start : o .0 / 2 ^ 24 < e .base → OutsideWindow ≡ askedBypass e o
+      below-start h = rw (good-range e some most, below e o h)
 
       module _ (start : e .base ≤ o .0 / 2 ^ 24) where
-        pub at-end : e .levels ≤ o .0 / 2 ^ 24 → OutsideWindow ≡ askedBypass e a
-        at-end h = rw (good-range e some most, above e (offset a) (rw cut at start) (rw cut at h))
+        pub at-end : e .levels ≤ o .0 / 2 ^ 24 → OutsideWindow ≡ askedBypass e o
+        at-end h = rw (good-range e some most, above e o start h)
 
-        pub in-range : o .0 / 2 ^ 24 < e .levels → Bypass ≡ askedBypass e a
-        in-range h = rw (good-range e some most, inside e (offset a) (rw cut at start) (rw cut at h))
+        pub in-range : o .0 / 2 ^ 24 < e .levels → Bypass ≡ askedBypass e o
+        in-range h = rw (good-range e some most, inside e o start h)
 
 -- `ask`
-module _ (e : TranslationEntry) (a : ByteAddress) where
-  pub no-table : e .table < 1 → BadEntry ≡ asked e a
+module _ (e : TranslationEntry) (o : ByteAddress) where
+  pub no-table : e .table < 1 → BadEntry ≡ asked e o
   unfolding tableGood
   no-table h = rw (lt-leb _ _ h)
 
   module _ (some : 1 ≤ e .table) where
-    pub large-table : 31 < e .table → BadEntry ≡ asked e a
+    pub large-table : 31 < e .table → BadEntry ≡ asked e o
     unfolding tableGood
     large-table h = rw (le-leb _ _ some, lt-leb _ _ h)
 
-    module _ (few : e .table ≤ 31) {r : Way} where
-      pub by-bypass : e .page ≡ 0 → r ≡ askedBypass e a → r ≡ asked e a
+    module _ (few : e .table ≤ 31) where
+      pub by-bypass : {r : Way} → e .page ≡ 0 → r ≡ askedBypass e o → r ≡ asked e o
       unfolding tableGood
       by-bypass z f = f ∙ rw (le-leb _ _ some, le-leb _ _ few, eq-eqb _ _ z)
 
-      pub by-pages : (e .page ≡ 0 → ⊥) → r ≡ askedPages e a → r ≡ asked e a
+      pub by-pages : {r : Way} → (e .page ≡ 0 → ⊥) → r ≡ askedPages e o → r ≡ asked e o
       unfolding tableGood
       by-pages z f = f ∙ rw (le-leb _ _ some, le-leb _ _ few, ne-eqb _ _ z)
 
@@ -100,16 +100,16 @@ module _ (e : TranslationEntry) (small : e .table ≤ 31) {c : Shape} (asks : c 
     pub span-below : n < 64
     span-below = omega (arith, good-span e good-is, span-is)
 
-module _ (e : TranslationEntry) (a : ByteAddress) (small : e .table ≤ 31) {c : Shape} (asks : c ≡ shapeOf e) where
-  pub bad-shape : c ≡ Bad → BadEntry ≡ askedPages e a
+module _ (e : TranslationEntry) (o : ByteAddress) (small : e .table ≤ 31) {c : Shape} (asks : c ≡ shapeOf e) where
+  pub bad-shape : c ≡ Bad → BadEntry ≡ askedPages e o
   bad-shape z = rw (bad-is e small asks z)
 
-  module _ {s : PageSize} {n : ℕ} (z : c ≡ Pages s n) {o : ByteAddress} (cut : o ≡ offset a) where
+  module _ {s : PageSize} {n : ℕ} (z : c ≡ Pages s n) where
     end-is : 1 * 2 ^ n % 2 ^ 64 ≡ 2 ^ span e
     end-is = rw (span-is e small asks z) (one-shl n (span-below e small asks z))
 
-    pub beyond : 1 * 2 ^ n % 2 ^ 64 ≤ o .0 → OutsideWindow ≡ askedPages e a
-    beyond h = rw (good-is e small asks z, le-ltb (offset a .0) (2 ^ span e) (rw (cut, end-is) at h))
+    pub beyond : 1 * 2 ^ n % 2 ^ 64 ≤ o .0 → OutsideWindow ≡ askedPages e o
+    beyond h = rw (good-is e small asks z, le-ltb (o .0) (2 ^ span e) (rw end-is at h))
 
-    pub walked : o .0 < 1 * 2 ^ n % 2 ^ 64 → Walk s ≡ askedPages e a
-    walked h = rw (good-is e small asks z, lt-ltb (offset a .0) (2 ^ span e) (rw (cut, end-is) at h), size-is e small asks z)
+    pub walked : o .0 < 1 * 2 ^ n % 2 ^ 64 → Walk s ≡ askedPages e o
+    walked h = rw (good-is e small asks z, lt-ltb (o .0) (2 ^ span e) (rw end-is at h), size-is e small asks z)

@@ -1,62 +1,64 @@
--- An entry that is walked is small.
---     good-levels, good-span  of a good entry with pages: levels and span are small
---     walk-shaped         an entry that is walked is as the walk asks
+-- What is asked of an entry is what `profile` says.
+--     asked-walk          THE LAW: the page table is walked where `walks` holds, by its page size; asked-ends: and else the offset comes to `unwalked`
+--     good-span           of a good entry with pages: the span is small
+--     walked-walks, other-walks   what was asked tells whether the page table is walked (isWalk); other-ends: and what the offset comes to
 -- Assumes nothing.
-use mathlib.Core.Path.{_≡_}
-use mathlib.Core.Bool.{true, false, _&&_}
-use Prim.Native.Nat.{_*_, _≤_}
-use native.Mathlib.Nat.{mul-comm}
-use native.Mathlib.Omega.{arith}
-use lib.Dec.{leb}
+use mathlib.Core.Path.{_≡_, refl, sym, ap, _∙_}
+use mathlib.Core.Bool.{Bool, true, false}
+use Prim.Native.Nat.{_^_, _≤_}
+use lib.Dec.{ltb}
 use borrow.Author.Tests.{leb-true}
-use Rattle.kinds.specs.Tests.{by-cases, and-left, and-right}
+use Rattle.kinds.specs.Tests.{by-cases, clash, all-true}
 use Rattle.kinds.specs.declared.number.ByteAddress.{ByteAddress}
 use Rattle.kinds.specs.declared.number.PageSize.{PageSize}
 use Rattle.kinds.specs.declared.record.TranslationEntry.{TranslationEntry}
-use Rattle.profile.specs.Entry.{offset, indexBits, span, aligned, tableGood, bypass, bypassGood, inBypass, pagesGood}
-use Rattle.page_tables.specs.Shape.{known}
-use Rattle.entries.specs.Ask.{asked, Shaped}
-use Rattle.entries.specs.declared.ask.Way.the-variants.{Walk}
+use Rattle.profile.specs.Entry.{pageSize, span, offsetBits, tableGood, bypass, bypassGood, inBypass, pageTests, pagesGood, paged, walks, unwalked}
+use Rattle.entries.specs.Ask.{asked, ended}
+use Rattle.entries.specs.declared.ask.Way.{Way}
+use Rattle.entries.specs.declared.ask.Way.the-variants.{Walk, Bypass, BadEntry, OutsideWindow}
 
-module _ (e : TranslationEntry) (good : pagesGood e ≡ true) where
-  pub good-levels : e .levels ≤ 5
-  unfolding pagesGood
-  good-levels =
-      let b = and-left (known e && leb 1 (e .levels) && leb (e .levels) 5 && aligned (indexBits e) (record { 0 = e .base })) (leb (span e) 59) good in
-      let l = and-left (known e && leb 1 (e .levels) && leb (e .levels) 5) (aligned (indexBits e) (record { 0 = e .base })) b in
-      leb-true (e .levels) 5 (and-right (known e && leb 1 (e .levels)) (leb (e .levels) 5) l)
+abbrev pub isWalk : Way → Bool
+isWalk (Walk s) = true
+isWalk Bypass = false
+isWalk BadEntry = false
+isWalk OutsideWindow = false
 
-  pub good-span : span e ≤ 59
-  unfolding pagesGood
-  good-span = leb-true (span e) 59 (and-right (known e && leb 1 (e .levels) && leb (e .levels) 5 && aligned (indexBits e) (record { 0 = e .base })) (leb (span e) 59) good)
+module _ (e : TranslationEntry) (o : ByteAddress) where
+  pub asked-walk : walks e o ≡ true → asked e o ≡ Walk (pageSize e)
+  unfolding walks paged
+  asked-walk w =
+      by-cases (tableGood e)
+      (λ t. by-cases (bypass e)
+      (λ b. clash (rw (t, b) at w) refl)
+      (λ b. by-cases (pagesGood e)
+      (λ g. by-cases (ltb (o .0) (2 ^ span e)) (λ i. rw (t, b, g, i)) (λ i. clash (rw (t, b, g, i) at w) refl))
+      (λ g. clash (rw (t, b, g) at w) refl)))
+      (λ t. clash (rw t at w) refl)
 
-good-table : (e : TranslationEntry) → tableGood e ≡ true → e .table ≤ 31
-unfolding tableGood
-good-table e t = leb-true (e .table) 31 (and-right (leb 1 (e .table)) (leb (e .table) 31) t)
+  -- the ways that end with no word read
+  pub asked-ends : walks e o ≡ false → (isWalk (asked e o) ≡ false) × (ended (asked e o) o ≡ unwalked e o)
+  unfolding walks paged unwalked
+  asked-ends w =
+      by-cases (tableGood e)
+      (λ t. by-cases (bypass e)
+      (λ b. by-cases (bypassGood e) (λ g. by-cases (inBypass e o) (λ i. rw (t, b, g, i) (refl, refl)) (λ i. rw (t, b, g, i) (refl, refl))) (λ g. rw (t, b, g) (refl, refl)))
+      (λ b. by-cases (pagesGood e)
+      (λ g. by-cases (ltb (o .0) (2 ^ span e)) (λ i. clash refl (rw (t, b, g, i) at w)) (λ i. rw (t, b, g, i) (refl, refl)))
+      (λ g. rw (t, b, g) (refl, refl))))
+      (λ t. rw t (refl, refl))
 
-good-indexes : (e : TranslationEntry) → span e ≤ 59 → indexBits e * e .levels ≤ 59
-unfolding span
-good-indexes e h = omega (arith, mul-comm (indexBits e) (e .levels))
+pub good-span : (e : TranslationEntry) → pagesGood e ≡ true → span e ≤ offsetBits
+unfolding pagesGood
+good-span e good = leb-true (span e) offsetBits (all-true (pageTests e) 4 good)
 
--- only a good entry with pages is walked
-module _ (e : TranslationEntry) (a : ByteAddress) {s : PageSize} (z : asked e a ≡ Walk s) where
-  walked-table : tableGood e ≡ true
-  walked-table = by-cases (tableGood e) (λ t. t) (λ t. let y = rw t at z in cc)
+-- what was asked
+module _ (e : TranslationEntry) (o : ByteAddress) {c : Way} (asks : c ≡ asked e o) where
+  pub walked-walks : {s : PageSize} → c ≡ Walk s → walks e o ≡ true
+  walked-walks z = by-cases (walks e o) (λ t. t) (λ t. clash (ap isWalk (sym asks ∙ z)) (asked-ends e o t .0))
 
-  walked-bypass : bypass e ≡ false
-  walked-bypass =
-      by-cases (bypass e)
-      (λ t. by-cases (bypassGood e)
-      (λ g. by-cases (inBypass e (offset a)) (λ i. let y = rw (walked-table, t, g, i) at z in cc) (λ i. let y = rw (walked-table, t, g, i) at z in cc))
-      (λ g. let y = rw (walked-table, t, g) at z in cc))
-      (λ t. t)
+  -- another way
+  pub other-walks : {x : Way} → c ≡ x → isWalk x ≡ false → walks e o ≡ false
+  other-walks {x} z n = by-cases (walks e o) (λ t. clash (ap isWalk (sym z ∙ asks ∙ asked-walk e o t)) n) (λ t. t)
 
-  walked-pages : pagesGood e ≡ true
-  walked-pages = by-cases (pagesGood e) (λ t. t) (λ t. let y = rw (walked-table, walked-bypass, t) at z in cc)
-
-  pub walk-shaped : Shaped e
-  walk-shaped = record {
-    table = good-table e walked-table;
-    levels = good-levels e walked-pages;
-    indexes = good-indexes e (good-span e walked-pages);
-  }
+  pub other-ends : {x : Way} → c ≡ x → isWalk x ≡ false → unwalked e o ≡ ended x o
+  other-ends z n = sym (asked-ends e o (other-walks z n) .1) ∙ rw (← asks, z)

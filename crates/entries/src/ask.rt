@@ -1,5 +1,4 @@
-// What an entry says of an address before memory is read.
-use addresses::offset_of;
+// What an entry says of an offset before memory is read.
 use kinds::number::ByteAddress;
 use kinds::number::PageSize;
 use kinds::record::TranslationEntry;
@@ -13,7 +12,7 @@ ghost use Rattle.entries.specs.Ask.{asked, askedBypass, askedPages};
 // The largest end of a bypass, in units of 16 MiB: 2^35 of them are 2^59 bytes.
 const MOST_UNITS: u64 = 0x8_0000_0000;
 
-// The way of a DMA by its entry: the page table is walked, the offset is the system address, the entry is bad, or the offset is outside its window.
+// The way of an offset by an entry: the page table is walked, the offset is the system address, the entry is bad, or the offset is outside its window.
 pub enum Way {
     Walk(PageSize),
     Bypass,
@@ -21,8 +20,8 @@ pub enum Way {
     OutsideWindow,
 }
 
-pub fn ask(entry: TranslationEntry, address: ByteAddress) -> Way
-    ensures { λ r. ⌜ r ≡ asked entry address ⌝ }
+pub fn ask(entry: TranslationEntry, offset: ByteAddress) -> Way
+    ensures { λ r. ⌜ r ≡ asked entry offset ⌝ }
 {
     let table = entry.table;
     if table < 1 {
@@ -33,14 +32,14 @@ pub fn ask(entry: TranslationEntry, address: ByteAddress) -> Way
     }
     let page = entry.page;
     if page == 0 {
-        return ask_bypass(entry, address);
+        return ask_bypass(entry, offset);
     }
-    ask_pages(entry, address)
+    ask_pages(entry, offset)
 }
 
 // An entry whose page code is 0: its first two words are start and end in units of 16 MiB, the end not included.
-fn ask_bypass(entry: TranslationEntry, address: ByteAddress) -> Way
-    ensures { λ r. ⌜ r ≡ askedBypass entry address ⌝ }
+fn ask_bypass(entry: TranslationEntry, offset: ByteAddress) -> Way
+    ensures { λ r. ⌜ r ≡ askedBypass entry offset ⌝ }
 {
     let start = entry.base;
     let end = entry.levels;
@@ -50,7 +49,7 @@ fn ask_bypass(entry: TranslationEntry, address: ByteAddress) -> Way
     if MOST_UNITS < end {
         return Way::BadEntry;
     }
-    let unit = offset_of(address).0 >> 24;
+    let unit = offset.0 >> 24;
     if unit < start {
         return Way::OutsideWindow;
     }
@@ -61,14 +60,14 @@ fn ask_bypass(entry: TranslationEntry, address: ByteAddress) -> Way
 }
 
 // An entry with another page code.
-fn ask_pages(entry: TranslationEntry, address: ByteAddress) -> Way
+fn ask_pages(entry: TranslationEntry, offset: ByteAddress) -> Way
     requires { ⌜ entry .table ≤ 31 ⌝ }
-    ensures { λ r. ⌜ r ≡ askedPages entry address ⌝ }
+    ensures { λ r. ⌜ r ≡ askedPages entry offset ⌝ }
 {
     let Shape::Pages { size, span } = shape_of(entry) else {
         return Way::BadEntry;
     };
-    if 1u64 << span <= offset_of(address).0 {
+    if 1u64 << span <= offset.0 {
         return Way::OutsideWindow;
     }
     Way::Walk(size)

@@ -1,7 +1,7 @@
 -- Marks that miss a memory word which the walks of a group can read.
 --     peMisses g l m t p  PE p is a member of group g, and a walk by one of its entries can read a word of memory m that has no mark in t;
 --                         l are the translation entries
---     anyMisses g l m t   that holds of some PE
+--     anyMisses g l m t   that holds of some PE. One of N or above misses nothing: entries of good length have no words of it
 -- Assumes nothing.
 use mathlib.Core.Bool.{Bool, true, false, cond}
 use mathlib.Core.List.{List}

@@ -14,7 +14,7 @@ use Rattle.members.specs.AnyLaws.{any-none}
 use Rattle.members.specs.Member.{memberOf, group}
 use Rattle.members.specs.MemberLaws.{member-below}
 use Rattle.profile.specs.Agree.{Reads}
-use Rattle.profile.specs.Entry.{half, entryIn, entry}
+use Rattle.profile.specs.Entry.{half, offset, entryIn, entry}
 use Rattle.profile.specs.Tables.{Tables, mostPes}
 use Rattle.footprint.specs.Footprint.{peMisses, anyMisses}
 
@@ -35,4 +35,4 @@ module _ (g l m t : List ℕ) (none : anyMisses g l m t ≡ false) where
 pub reads-marked : (g t : List ℕ) (f : Tables) (m : List ℕ) → anyMisses g (f .entries) m t ≡ false → (k : ℕ) → Reads (group g) f m k → anyMark t k ≡ true
 reads-marked g t f m none k r =
     entry-marked m t (entry f (r .pe) (half (r .address)))
-    (member-none g (f .entries) m t none (r .pe .0) (r .member) (half (r .address)) (omega arith)) (r .address) k (r .word)
+    (member-none g (f .entries) m t none (r .pe .0) (r .member) (half (r .address)) (omega arith)) (offset (r .address)) k (r .word)

@@ -1,8 +1,12 @@
 // Reason 2: whether a request is well formed.
 use kinds::number::ByteAddress;
 use kinds::request::Request;
+use profile::limits::HOLDING;
 ghost use mathlib.Core.Path.{_≡_};
 ghost use Rattle.profile.specs.Step.{accessFormed, dmaFormed, formed};
+
+// A DMA has at most this many bytes, all in one block of as many.
+const BLOCK: u64 = 4096;
 
 // 1 to 4,096 bytes, all in one block of 4,096.
 fn dma_formed(address: ByteAddress, length: u64) -> bool
@@ -11,10 +15,10 @@ fn dma_formed(address: ByteAddress, length: u64) -> bool
     if length < 1 {
         return false;
     }
-    if 4096 < length {
+    if BLOCK < length {
         return false;
     }
-    address.0 % 4096 + length <= 4096
+    address.0 % BLOCK + length <= BLOCK
 }
 
 // Width 1, 2, 4 or 8, and the address a multiple of it.
@@ -41,35 +45,16 @@ pub fn is_formed(request: Request) -> bool
     ensures { λ r. ⌜ r ≡ formed request ⌝ }
 {
     match request {
-        Request::Dma {
-            requester: _,
-            direction: _,
-            address,
-            length,
-            data: _,
-        } => {
-            return dma_formed(address, length);
-        }
-        Request::Load { address, width } => {
-            return access_formed(address, width);
-        }
-        Request::Store { address, width } => {
-            return access_formed(address, width);
-        }
-        Request::Error { requester: _ } => {
-            return true;
-        }
-        Request::Clear { pe: _, part: _ } => {
-            return true;
-        }
-        Request::End { interrupt: _ } => {
-            return true;
-        }
+        Request::Dma(dma) => dma_formed(dma.address, dma.length),
+        Request::Load { address, width } => access_formed(address, width),
+        Request::Store { address, width } => access_formed(address, width),
+        Request::Error { requester: _ } => true,
+        Request::Clear { pe: _, part: _ } => true,
+        Request::End { interrupt: _ } => true,
         Request::Priority {
             interrupt: _,
             priority,
-        } => {
-            return priority <= 255;
-        }
+        } => priority <= HOLDING,
+        Request::Unnamed => false,
     }
 }

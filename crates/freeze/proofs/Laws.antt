@@ -1,21 +1,23 @@
 -- What the functions of `freeze` are proved from, a law to a `return` or a turn. Assumes nothing.
-use mathlib.Core.Path.{_≡_, ap, _∙_}
+use mathlib.Core.Path.{_≡_, sym, ap, _∙_}
 use mathlib.Core.Bool.{Bool, true, false}
-use mathlib.Core.List.{List}
-use Prim.Native.Nat.{ℕ, _+_, _*_, _/_, _≤_}
-use lib.ListN.{length, set}
-use borrow.Author.Tests.{eq-eqb, ne-eqb}
+use mathlib.Core.List.{List, _++_}
+use Prim.Native.Nat.{ℕ, _+_, _*_, _/_, _<_, _≤_}
+use native.Mathlib.Omega.{arith}
+use lib.ListN.{length, set, take, drop}
+use lib.Seq.{length-take-le}
+use borrow.Author.Tests.{lt-ltb, le-ltb, eq-eqb, ne-eqb}
 use Rattle.kinds.specs.Answer.{reasonNumber}
 use Rattle.kinds.specs.Turns.{turns}
 use Rattle.kinds.specs.TurnsLaws.{turns-next}
 use Rattle.kinds.specs.Words.{at, bitOf}
-use Rattle.kinds.specs.declared.answer.Reason.{Reason}
 use Rattle.kinds.specs.declared.answer.Reason.the-variants.{FrozenAsPeer}
 use Rattle.kinds.specs.declared.number.PeNumber.{PeNumber}
+use Rattle.kinds.specs.declared.outcome.ErrorRecord.{ErrorRecord}
 use Rattle.profile.specs.Freeze.{froze}
 use Rattle.profile.specs.Tables.{stateWords}
-use Rattle.freeze.specs.Turn.{stopped, turned, freezeTurn}
-use Rattle.freeze.specs.TurnLaws.{length-turned, turns-is}
+use Rattle.freeze.specs.Turn.{stopped, turned, freezeTurn, endOf, frozeAll}
+use Rattle.freeze.specs.TurnLaws.{length-turned, turns-is, end-within, part-is}
 
 -- b and o are the stop word and the reason that were read
 module _ (l : List ℕ) (k r v : ℕ) {b o : ℕ} {m : List ℕ} (stop : b ≡ at l (k * stateWords)) (reason : o ≡ at l (k * stateWords + 1)) (bits : m ≡ set l (k * stateWords) (b / 4 * 4 + 3)) where
@@ -40,13 +42,34 @@ module _ (b : Bool) (p : PeNumber) (r v : ℕ) (l : List ℕ) (k : ℕ) where
   unfolding turned
   turned-other e y = rw (ne-eqb k (p .0) e, y)
 
-module _ (w : List ℕ) (p : PeNumber) (n v : ℕ) (l : List ℕ) {m : List ℕ} (k : ℕ) (e : m ≡ turns (freezeTurn w p n v) l k) where
-  module _ {b : Bool} {x : List ℕ} (asked : b ≡ bitOf w k) (h : x ≡ turned b p n v m k) where
-    pub turn-next : x ≡ turns (freezeTurn w p n v) l (k + 1)
-    turn-next = turns-next (freezeTurn w p n v) l k e (rw (← asked) h)
+-- `end_of`
+pub end-pes : (n b : ℕ) → b < n / stateWords + 1 → b * stateWords ≡ endOf n b
+unfolding endOf
+end-pes n b h = rw (lt-ltb b (n / stateWords + 1) h)
+
+pub end-all : (n b : ℕ) → n / stateWords + 1 ≤ b → n ≡ endOf n b
+unfolding endOf
+end-all n b h = rw (le-ltb b (n / stateWords + 1) h)
+
+-- `freeze`: the part that is frozen, and the whole after it
+module _ (l : List ℕ) (b : ℕ) {n : ℕ} (end : n ≡ endOf (length l) b) where
+  pub part-within : n ≤ length l
+  part-within = rw end (end-within l b)
+
+  pub part-length : n ≡ length (take n l)
+  part-length = sym (length-take-le n l part-within)
+
+  pub part-froze : (v : List ℕ) (p : PeNumber) (e : ErrorRecord) {k : List ℕ} → k ≡ frozeAll v p e (take n l) → k ++ drop n l ≡ froze b v p e l
+  part-froze v p e h = rw (h, end) (part-is l b v p e)
+
+-- `freeze_all`
+module _ (v : List ℕ) (p : PeNumber) (e : ErrorRecord) (l : List ℕ) {m : List ℕ} (k : ℕ) (same : m ≡ turns (freezeTurn v p e) l k) where
+  module _ {b : Bool} {r : ℕ} {x : List ℕ} (asked : b ≡ bitOf v k) (number : r ≡ reasonNumber (e .reason)) (h : x ≡ turned b p r (e .value) m k) where
+    pub turn-next : x ≡ turns (freezeTurn v p e) l (k + 1)
+    turn-next = turns-next (freezeTurn v p e) l k same (rw (← asked, ← number) h)
 
     pub turn-length : length m ≡ length l → length x ≡ length l
-    turn-length g = ap length (rw asked at h) ∙ length-turned w p n v m k ∙ g
+    turn-length g = ap length (rw (asked, number) at h) ∙ length-turned v p e m k ∙ g
 
-  pub turn-last : (r : Reason) → n ≡ reasonNumber r → length m ≡ length l → length m ≤ k * stateWords → m ≡ froze w p (reasonNumber r) v l
-  turn-last r f g h = rw (← f) (e ∙ turns-is w p n v l k (rw (← g) h))
+  pub turn-last : length m ≡ length l → length m ≤ k * stateWords → m ≡ frozeAll v p e l
+  turn-last g h = same ∙ turns-is v p e l k (rw (← g) h)

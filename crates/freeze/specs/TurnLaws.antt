@@ -2,26 +2,29 @@
 --     length-stopped, length-turned   the state keeps its length
 --     at-stopped          the words of a PE that is stopped are marked, and no others
 --     at-turned           a turn freezes the words of its PE, and no others
---     turns-is            turns for all PEs of the state are the freeze
+--     turns-is            turns for all words are the freeze of a state of PEs below N
+--     end-within, part-is the freeze of the words of the PEs below N is the freeze
 -- Assumes nothing.
-use mathlib.Core.Path.{_≡_, refl}
+use mathlib.Core.Path.{_≡_, refl, sym, _∙_}
 use mathlib.Core.Bool.{Bool, true, false, cond, _&&_}
-use mathlib.Core.List.{List}
-use Prim.Native.Nat.{ℕ, _+_, _*_, _/_, _%_, _≤_}
+use mathlib.Core.List.{List, _++_}
+use Prim.Native.Nat.{ℕ, _+_, _*_, _/_, _%_, _<_, _≤_}
 use native.Mathlib.Omega.{arith}
 use lib.Dec.{ltb, eqb}
-use lib.ListN.{length, length-set}
-use borrow.Author.Tests.{eqb-true, eqb-false}
+use lib.ListN.{length, take, drop, length-set}
+use lib.Seq.{ext-getD, getD-take, take-length, length-take-le, length-front}
+use borrow.Author.Tests.{lt-ltb, le-ltb, ltb-true, ltb-false, eqb-true, eqb-false}
 use Rattle.kinds.specs.Answer.{reasonNumber}
 use Rattle.kinds.specs.Tests.{by-cases, and-left}
 use Rattle.kinds.specs.Turns.{turns}
 use Rattle.kinds.specs.TurnsLaws.{at-place, at-first, turns-mapAt}
 use Rattle.kinds.specs.Words.{at, bitOf}
-use Rattle.kinds.specs.declared.answer.Reason.the-variants.{FrozenAsPeer}
+use Rattle.kinds.specs.WordsLaws.{at-front, at-mapAt, length-mapAt}
 use Rattle.kinds.specs.declared.number.PeNumber.{PeNumber}
-use Rattle.profile.specs.Freeze.{marked, frozen, froze}
+use Rattle.kinds.specs.declared.outcome.ErrorRecord.{ErrorRecord}
+use Rattle.profile.specs.Freeze.{asPeer, marked, frozen, ofPes, froze}
 use Rattle.profile.specs.Tables.{stateWords}
-use Rattle.freeze.specs.Turn.{stopped, turned, freezeTurn}
+use Rattle.freeze.specs.Turn.{stopped, turned, freezeTurn, endOf, frozeAll}
 
 -- a word of one state or of another
 at-either : (b : Bool) (l m : List ℕ) (i : ℕ) → at (cond b l m) i ≡ cond b (at l i) (at m i)
@@ -51,12 +54,12 @@ module _ (l : List ℕ) (k : ℕ) where
       (λ p. let y = eqb-false (i % stateWords) 1 p in value g (omega arith))))
       other
 
-  module _ (r v : ℕ) where
-    length-stopped : length (stopped r v l k) ≡ length l
+  module _ (e : ErrorRecord) where
+    length-stopped : length (stopped (reasonNumber (e .reason)) (e .value) l k) ≡ length l
     unfolding stopped
     length-stopped = by-cases (eqb (at l (k * stateWords + 1)) 0) (λ o. rw o (simp length-set)) (λ o. rw o (simp length-set))
 
-    at-stopped : (i : ℕ) → at (stopped r v l k) i ≡ cond (owned i) (marked r v (at l (k * stateWords + 1)) i (at l i)) (at l i)
+    at-stopped : (i : ℕ) → at (stopped (reasonNumber (e .reason)) (e .value) l k) i ≡ cond (owned i) (marked e (at l (k * stateWords + 1)) i (at l i)) (at l i)
     unfolding stopped marked
     at-stopped i =
         by-cases (eqb (at l (k * stateWords + 1)) 0)
@@ -64,24 +67,73 @@ module _ (l : List ℕ) (k : ℕ) where
         (word-cases i (λ g z d. rw (g, z, d)) (λ g z. rw (g, z)) (λ g z. rw (g, z)) (λ g. rw g))))
         (λ o. rw o (simp (at-first stateWords (omega arith)) (word-cases i (λ g z d. rw (g, z, d)) (λ g z. rw (g, z)) (λ g z. rw (g, z)) (λ g. rw g))))
 
-module _ (w : List ℕ) (p : PeNumber) (r v : ℕ) where
-  pub length-turned : (l : List ℕ) (k : ℕ) → length (freezeTurn w p r v l k) ≡ length l
+module _ (v : List ℕ) (p : PeNumber) (e : ErrorRecord) where
+  pub length-turned : (l : List ℕ) (k : ℕ) → length (freezeTurn v p e l k) ≡ length l
   unfolding turned
   length-turned l k =
-      by-cases (eqb k (p .0)) (λ o. rw o (length-stopped l k r v))
-      (λ o. rw o (by-cases (bitOf w k) (λ q. rw q (length-stopped l k _ _)) (λ q. rw q)))
+      by-cases (eqb k (p .0)) (λ o. rw o (length-stopped l k e))
+      (λ o. rw o (by-cases (bitOf v k) (λ q. rw q (length-stopped l k (asPeer p))) (λ q. rw q)))
 
-  at-turned : (l : List ℕ) (k i : ℕ) → at (freezeTurn w p r v l k) i ≡ cond (owned l k i) (frozen w p r v l i (at l i)) (at l i)
+  at-turned : (l : List ℕ) (k i : ℕ) → at (freezeTurn v p e l k) i ≡ cond (owned l k i) (frozen v p e l i (at l i)) (at l i)
   unfolding turned frozen
   at-turned l k i =
-      rw (at-either (eqb k (p .0)), at-either (bitOf w k), at-stopped l k r v i, at-stopped l k (reasonNumber FrozenAsPeer) (p .0) i)
+      rw (at-either (eqb k (p .0)), at-either (bitOf v k), at-stopped l k e i, at-stopped l k (asPeer p) i)
       (by-cases (owned l k i)
       (λ g. rw (g, eqb-true (i / stateWords) k (and-left _ _ g)))
       (λ g. rw (g, either-same, either-same)))
 
-  frozen-reads : (l m : List ℕ) (i x : ℕ) → ((j : ℕ) → j / stateWords ≡ i / stateWords → at l j ≡ at m j) → frozen w p r v l i x ≡ frozen w p r v m i x
+  frozen-reads : (l m : List ℕ) (i x : ℕ) → ((j : ℕ) → j / stateWords ≡ i / stateWords → at l j ≡ at m j) → frozen v p e l i x ≡ frozen v p e m i x
   unfolding frozen
   frozen-reads l m i x h = rw (h (i / stateWords * stateWords + 1) (omega arith))
 
-  pub turns-is : (l : List ℕ) (n : ℕ) → length l ≤ n * stateWords → turns (freezeTurn w p r v) l n ≡ froze w p r v l
-  turns-is l n h = turns-mapAt stateWords (omega arith) (frozen w p r v) (freezeTurn w p r v) length-turned frozen-reads at-turned l n h
+  pub turns-is : (l : List ℕ) (n : ℕ) → length l ≤ n * stateWords → turns (freezeTurn v p e) l n ≡ frozeAll v p e l
+  turns-is l n h = turns-mapAt stateWords (omega arith) (frozen v p e) (freezeTurn v p e) length-turned frozen-reads at-turned l n h
+
+-- ---- the words of the PEs below b
+
+module _ (l : List ℕ) (b : ℕ) where
+  pub end-within : endOf (length l) b ≤ length l
+  unfolding endOf
+  end-within =
+      by-cases (ltb b (length l / stateWords + 1))
+      (λ o. let z = ltb-true b (length l / stateWords + 1) o in rw o (omega arith))
+      (λ o. rw o (omega arith))
+
+  -- a word is before the end where its PE is below b
+  end-is : (i : ℕ) → i < length l → ltb i (endOf (length l) b) ≡ ltb (i / stateWords) b
+  unfolding endOf
+  end-is i h =
+      by-cases (ltb b (length l / stateWords + 1))
+      (λ o. rw o (by-cases (ltb (i / stateWords) b)
+      (λ p. let z = ltb-true (i / stateWords) b p in rw (p, lt-ltb i (b * stateWords) (omega arith)))
+      (λ p. let z = ltb-false (i / stateWords) b p in rw (p, le-ltb i (b * stateWords) (omega arith)))))
+      (λ o. let z = ltb-false b (length l / stateWords + 1) o in
+      rw (o, lt-ltb i (length l) h, lt-ltb (i / stateWords) b (omega arith)))
+
+  -- all words of such a PE are in the part
+  part-words : (i : ℕ) → i / stateWords < b → at (take (endOf (length l) b) l) i ≡ at l i
+  unfolding endOf
+  part-words i h =
+      by-cases (ltb b (length l / stateWords + 1))
+      (λ o. rw o (getD-take (b * stateWords) l i 0 (omega arith)))
+      (λ o. rw (o, take-length l))
+
+  module _ (v : List ℕ) (p : PeNumber) (e : ErrorRecord) where
+    part-frozen : (i : ℕ) → i < length l → i / stateWords < b
+        → at (frozeAll v p e (take (endOf (length l) b) l)) i ≡ frozen v p e l i (at l i)
+    part-frozen i h g =
+        let m = take (endOf (length l) b) l in
+        let inside : i < length m = rw (length-take-le (endOf (length l) b) l end-within)
+        (ltb-true i (endOf (length l) b) (rw (end-is i h) (lt-ltb (i / stateWords) b g))) in
+        rw (at-mapAt, lt-ltb i (length m) inside, part-words i g)
+        (frozen-reads v p e m l i (at l i) (λ j q. part-words j (rw q g)))
+
+    pub part-is : frozeAll v p e (take (endOf (length l) b) l) ++ drop (endOf (length l) b) l ≡ froze b v p e l
+    part-is =
+        let n = endOf (length l) b in
+        let k = frozeAll v p e (take n l) in
+        let short : length k ≡ length (take n l) = length-mapAt (frozen v p e (take n l)) 0 (take n l) in
+        ext-getD 0 (k ++ drop n l) (froze b v p e l) (length-front l k n short ∙ sym (length-mapAt (ofPes b (frozen v p e l)) 0 l))
+        (λ i h. let g : i < length l = rw (length-front l k n short) at h in
+        at-front k l n (short ∙ length-take-le n l end-within) i ∙ rw (end-is i g, at-mapAt (ofPes b (frozen v p e l)) l i, lt-ltb i (length l) g)
+        (by-cases (ltb (i / stateWords) b) (λ o. rw o (part-frozen i g (ltb-true (i / stateWords) b o))) (λ o. rw o)))

@@ -4,19 +4,18 @@ use mathlib.Core.Bool.{Bool, true, false, not}
 use mathlib.Core.List.{List}
 use Prim.Native.Nat.{ℕ, _-_, _*_, _/_, _%_, _<_, _≤_}
 use borrow.Author.Tests.{lt-leb, le-leb, eq-eqb, ne-eqb}
-use Rattle.kinds.specs.Words.{at, bitOf}
+use Rattle.kinds.specs.Words.{noPe, peAt, bitOf}
 use Rattle.kinds.specs.declared.answer.Reason.{Reason}
 use Rattle.kinds.specs.declared.lookup.Owner.{Owner}
 use Rattle.kinds.specs.declared.lookup.Owner.the-variants.{Of, Nobody}
 use Rattle.kinds.specs.declared.number.PeNumber.{PeNumber}
+use Rattle.kinds.specs.declared.record.Sizes.{Sizes}
 use Rattle.kinds.specs.declared.request.Request.{Request}
 use Rattle.profile.specs.Freeze.{vectorIn}
-use Rattle.profile.specs.Tables.{Tables, Live, mostPes, interruptWords}
-use Rattle.owners.specs.Known.{knownOwner}
-use Rattle.layout.specs.declared.Decoded.{Decoded}
-use Rattle.layout.specs.declared.Decoded.the-variants.{Named, Unnamed}
+use Rattle.profile.specs.Owner.{ownerIn}
+use Rattle.profile.specs.Tables.{mostPes, interruptWords}
 use Rattle.members.specs.Member.{memberOf}
-use Rattle.groups.specs.Group.{flag, ownerNumber, knownOwnerAs, memberListed, listsMember, outsiderLists, anyOutsiderLists, closed}
+use Rattle.groups.specs.Group.{flag, ownerNumber, ownerNumberIn, memberListed, listsMember, outsiderLists, anyOutsiderLists, closed}
 use Rattle.footprint.specs.Footprint.{anyMisses}
 use Rattle.groups.specs.Seen.{interruptSeen}
 
@@ -37,21 +36,18 @@ pub owner-of-pe : {o : Owner} {p : PeNumber} → o ≡ Of p → p .0 ≡ ownerNu
 unfolding ownerNumber
 owner-of-pe e = rw e
 
-pub owner-nobody : {o : Owner} {r : Reason} → o ≡ Nobody r → 65536 ≡ ownerNumber o
+pub owner-nobody : {o : Owner} {r : Reason} → o ≡ Nobody r → noPe ≡ ownerNumber o
 unfolding ownerNumber
 owner-nobody e = rw e
 
-module _ (f : Tables) (s : Live) {d : Decoded} where
-  pub owner-named : {q : Request} {o : Owner} {r : ℕ} → d ≡ Named q → o ≡ knownOwner f s q → r ≡ ownerNumber o → r ≡ ownerNumber (knownOwnerAs f s d)
-  unfolding knownOwnerAs
-  owner-named e h i = rw (e, ← h) i
+module _ (z : Sizes) (r w s l : List ℕ) (q : Request) where
+  pub owner-past : mostPes < z .pes → noPe ≡ ownerNumberIn z r w s l q
+  unfolding ownerNumberIn
+  owner-past h = rw (lt-leb _ _ h)
 
-  pub owner-unnamed : d ≡ Unnamed → 65536 ≡ ownerNumber (knownOwnerAs f s d)
-  unfolding knownOwnerAs ownerNumber
-  owner-unnamed e = rw e
-
-  pub owner-decoded : {c : Decoded} {r : ℕ} → d ≡ c → r ≡ ownerNumber (knownOwnerAs f s d) → r ≡ ownerNumber (knownOwnerAs f s c)
-  owner-decoded e h = rw (← e) h
+  pub owner-decoded : {x : Request} {o : Owner} {n : ℕ} → z .pes ≤ mostPes → x ≡ q → o ≡ ownerIn z r w s l x → n ≡ ownerNumber o → n ≡ ownerNumberIn z r w s l q
+  unfolding ownerNumberIn
+  owner-decoded h e i f = rw (le-leb _ _ h, ← e, ← i) f
 
 -- ---- closed groups
 
@@ -64,12 +60,12 @@ module _ (g v : List ℕ) (k : ℕ) {b : Bool} (asked : b ≡ memberOf g k) wher
   unfolding memberListed
   listed-other o = rw (← asked, o)
 
-module _ (g l : List ℕ) (p : ℕ) {b : Bool} (asked : b ≡ memberOf g p) where
-  pub outsider-member : b ≡ true → false ≡ outsiderLists g l p
+module _ (g l : List ℕ) (n p : ℕ) {b : Bool} (asked : b ≡ memberOf g p) where
+  pub outsider-member : b ≡ true → false ≡ outsiderLists g l n p
   unfolding outsiderLists
   outsider-member o = rw (← asked, o)
 
-  pub outsider-other : {v : List ℕ} {r : Bool} → b ≡ false → v ≡ vectorIn l (record { 0 = p }) → r ≡ listsMember g v → r ≡ outsiderLists g l p
+  pub outsider-other : {v : List ℕ} {r : Bool} → b ≡ false → v ≡ vectorIn l (record { 0 = p }) → r ≡ listsMember g v n → r ≡ outsiderLists g l n p
   unfolding outsiderLists
   outsider-other o e h = rw (← asked, o, ← e) h
 
@@ -102,6 +98,6 @@ module _ (g l : List ℕ) (i : ℕ) where
   unfolding interruptSeen
   interrupt-pe h = rw (eq-eqb _ 0 h)
 
-  pub interrupt-own : {w : ℕ} {b : Bool} → (i % interruptWords ≡ 0 → ⊥) → w ≡ at l (i / interruptWords * interruptWords) → b ≡ memberOf g w → b ≡ interruptSeen g l i
+  pub interrupt-own : {w : ℕ} {b : Bool} → (i % interruptWords ≡ 0 → ⊥) → w ≡ peAt l (i / interruptWords * interruptWords) → b ≡ memberOf g w → b ≡ interruptSeen g l i
   unfolding interruptSeen
   interrupt-own h e p = rw (ne-eqb _ 0 h, ← e) p

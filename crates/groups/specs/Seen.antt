@@ -6,13 +6,13 @@ use mathlib.Core.Bool.{Bool, true, cond}
 use mathlib.Core.List.{List}
 use Prim.Native.Nat.{ℕ, _*_, _/_, _%_}
 use lib.Dec.{eqb}
-use Rattle.kinds.specs.Words.{at}
+use Rattle.kinds.specs.Words.{peAt}
 use Rattle.profile.specs.Tables.{entryWords, interruptWords, stateWords}
 use Rattle.marks.specs.Marks.{anyMark}
 use Rattle.members.specs.Member.{memberOf}
 
 unfoldable pub interruptSeen : (g interrupts : List ℕ) → ℕ → Bool
-interruptSeen g l i = cond (eqb (i % interruptWords) 0) true (memberOf g (at l (i / interruptWords * interruptWords)))
+interruptSeen g l i = cond (eqb (i % interruptWords) 0) true (memberOf g (peAt l (i / interruptWords * interruptWords)))
 
 unfoldable pub seen : (g interrupts marks : List ℕ) → (table index : ℕ) → Bool
 seen g l t n i =

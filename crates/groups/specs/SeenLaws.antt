@@ -1,27 +1,31 @@
--- Two bridges that agree in the words that are public or the group's meet the premises of demand 3, and a run of each answers the group alike.
+-- Two bridges that agree in the words that are public or the group's meet the premises of demand 3, and a run of each answers the group alike and leaves it the same.
 --     viewed              with marks that miss nothing, `SeenAlike` gives `View`: what demand 3 asks of two bridges
---     isolated-run        THE STATEMENT: what `closed`, `anyMisses` and `seen` test, and own requests that are equal, give equal answers
+--     isolated-run        THE STATEMENT: what `closed`, `anyMisses` and `seen` test, and own requests that are equal, give equal answers and leave the
+--                         group's stop bits, error records and interrupt records equal
 -- Assumes nothing.
-use mathlib.Core.Path.{_≡_, refl, ap}
+use mathlib.Core.Path.{_≡_, refl, sym, ap, _∙_}
 use mathlib.Core.Bool.{true, false}
 use mathlib.Core.List.{List}
 use Prim.Native.Nat.{ℕ, _+_, _*_, _/_, _%_, _<_}
 use native.Mathlib.Nat.{add-zero}
 use native.Mathlib.Omega.{arith}
-use lib.Dec.{eqb}
+use lib.Dec.{ltb, eqb}
+use lib.ListN.{length, List·getD-eq-default}
 use lib.Seq.{ext-getD}
-use borrow.Author.Tests.{eq-eqb}
+use borrow.Author.Tests.{ltb-true, ltb-false, eq-eqb}
 use Rattle.kinds.specs.Tests.{by-cases}
-use Rattle.kinds.specs.Words.{at}
+use Rattle.kinds.specs.Words.{at, noPe, peAt}
+use Rattle.kinds.specs.WordsLaws.{pe-in}
 use Rattle.kinds.specs.declared.number.PeNumber.{PeNumber}
 use Rattle.kinds.specs.declared.record.Lengths.{Lengths}
+use Rattle.profile.specs.Agree.{interruptPe}
 use Rattle.profile.specs.Entry.{entry}
 use Rattle.profile.specs.Msi.{interrupt}
 use Rattle.profile.specs.Tables.{entryWords, recordWords, interruptWords, stateWords}
 use Rattle.isolation.specs.View.{Bridge, lengthsOf, Public, Written, View}
 use Rattle.runs.specs.Run.{served, ranTo}
 use Rattle.runs.specs.RunIsolation.{ownRequests, ownAnswers, run-isolation}
-use Rattle.members.specs.Member.{memberOf, group}
+use Rattle.members.specs.Member.{group}
 use Rattle.groups.specs.Group.{closed}
 use Rattle.groups.specs.GroupLaws.{closed-is}
 use Rattle.footprint.specs.Footprint.{anyMisses}
@@ -29,16 +33,25 @@ use Rattle.footprint.specs.FootprintLaws.{reads-marked}
 use Rattle.groups.specs.SeenAlike.{SeenAlike}
 use Rattle.groups.specs.Seen.{interruptSeen, seen}
 
+-- two tables of one length with the same word
+pe-same : (l k : List ℕ) (i : ℕ) → length l ≡ length k → at l i ≡ at k i → peAt l i ≡ peAt k i
+pe-same l k i e h =
+    by-cases (ltb i (length l))
+    (λ o. let b = ltb-true i (length l) o in sym (pe-in l i b) ∙ h ∙ pe-in k i (omega arith))
+    (λ o. let b = ltb-false i (length l) o in List·getD-eq-default l noPe b ∙ sym (List·getD-eq-default k noPe (omega arith)))
+
 module _ (g t : List ℕ) (a b : Bridge) (s : SeenAlike g t a b) where
   same-length : (P : Lengths → ℕ) → P (lengthsOf a) ≡ P (lengthsOf b)
   same-length P = ap P (s .all-lengths)
 
   -- the word of an interrupt that is its PE, and one whose PE is a member
-  pe-word : (i : ℕ) → at (a .live .interrupts) (i * interruptWords) ≡ at (b .live .interrupts) (i * interruptWords)
+  pe-word : (i : ℕ) → interrupt (a .live) i .pe ≡ interrupt (b .live) i .pe
   unfolding seen interruptSeen
-  pe-word i = s .words 4 (i * interruptWords) (rw (eq-eqb (i * interruptWords % interruptWords) 0 (omega arith)))
+  pe-word i =
+      pe-same (a .live .interrupts) (b .live .interrupts) (i * interruptWords) (same-length (λ x. x .interrupts))
+      (s .words 4 (i * interruptWords) (rw (eq-eqb (i * interruptWords % interruptWords) 0 (omega arith))))
 
-  interrupt-word : (i : ℕ) → memberOf g (at (a .live .interrupts) (i * interruptWords)) ≡ true → (j : ℕ) → j < interruptWords
+  interrupt-word : (i : ℕ) → group g (interruptPe (a .live) i) ≡ true → (j : ℕ) → j < interruptWords
       → at (a .live .interrupts) (i * interruptWords + j) ≡ at (b .live .interrupts) (i * interruptWords + j)
   unfolding seen interruptSeen
   interrupt-word i m j h =
@@ -97,6 +110,8 @@ pub isolated-run : (g t : List ℕ) (a b : Bridge)
     → closed (a .tables .sizes .pes) g (a .tables .peers) ≡ true → anyMisses g (a .tables .entries) (a .memory) t ≡ false → SeenAlike g t a b
     -- request words w on the first bridge and v on the second, with answer words l and k
     → (w v l k : List ℕ) → ownRequests (group g) a w (served w l) ≡ ownRequests (group g) b v (served v k)
-    → ownAnswers (group g) a w (ranTo (a .tables) (a .memory) w (a .live) l (served w l) .answers) (served w l)
-    ≡ ownAnswers (group g) b v (ranTo (b .tables) (b .memory) v (b .live) k (served v k) .answers) (served v k)
-isolated-run g t a b c none s w v l k e = run-isolation .isolated (group g) a b (closed-is g (a .tables) c) (viewed g t a b s none) w v l k e .0
+    → (ownAnswers (group g) a w (ranTo (a .tables) (a .memory) w (a .live) l (served w l) .answers) (served w l)
+    ≡ ownAnswers (group g) b v (ranTo (b .tables) (b .memory) v (b .live) k (served v k) .answers) (served v k))
+    × Written (group g) (a .tables .sizes .interrupts) (ranTo (a .tables) (a .memory) w (a .live) l (served w l) .live)
+    (ranTo (b .tables) (b .memory) v (b .live) k (served v k) .live)
+isolated-run g t a b c none s w v l k e = run-isolation .isolated (group g) a b (closed-is g (a .tables) c) (viewed g t a b s none) w v l k e

@@ -2,26 +2,24 @@
 use kinds::number::PeNumber;
 use members;
 use peers;
-use profile::limits::MOST_PES;
 ghost use mathlib.Core.Path.{_≡_};
-ghost use Prim.Native.Nat.{_<_, _≤_};
-ghost use Rattle.profile.specs.Tables.{mostPes};
 ghost use Rattle.groups.specs.Group.{memberListed, listsMember, outsiderLists, anyOutsiderLists};
 
 // PE k is a member and in the vector.
-fn member_listed(group: &[u64], vector: &[u64], k: usize) -> bool
+fn member_listed(group: &[u64], vector: &[u64], k: u16) -> bool
     ensures { λ r. ⌜ r ≡ memberListed (now (group .entry)) (now (vector .entry)) k ⌝ }
 {
     if members::is_member(group, k as u64) {
-        return peers::is_listed(vector, k);
+        return peers::is_listed(vector, k as usize);
     }
     false
 }
 
-fn lists_member(group: &[u64], vector: &[u64]) -> bool
-    ensures { λ r. ⌜ r ≡ listsMember (now (group .entry)) (now (vector .entry)) ⌝ }
+// A member among the first `pes` PEs is in the vector.
+fn lists_member(group: &[u64], vector: &[u64], pes: u16) -> bool
+    ensures { λ r. ⌜ r ≡ listsMember (now (group .entry)) (now (vector .entry)) pes ⌝ }
 {
-    let mut left: usize = MOST_PES as usize;
+    let mut left = pes;
     while 0 < left {
         let k = left - 1;
         if member_listed(group, vector, k) {
@@ -33,26 +31,24 @@ fn lists_member(group: &[u64], vector: &[u64]) -> bool
 }
 
 // PE `pe` is no member and lists one.
-fn outsider_lists(group: &[u64], peers: &[u64], pe: usize) -> bool
-    requires { ⌜ pe < mostPes ⌝ }
-    ensures { λ r. ⌜ r ≡ outsiderLists (now (group .entry)) (now (peers .entry)) pe ⌝ }
+fn outsider_lists(group: &[u64], peers: &[u64], pes: u16, pe: u16) -> bool
+    ensures { λ r. ⌜ r ≡ outsiderLists (now (group .entry)) (now (peers .entry)) pes pe ⌝ }
 {
     if members::is_member(group, pe as u64) {
         return false;
     }
-    let vector = peers::peer_vector(peers, PeNumber(pe as u16));
-    lists_member(group, &vector)
+    let vector = peers::peer_vector(peers, PeNumber(pe));
+    lists_member(group, &vector, pes)
 }
 
-// One of the first `pes` PEs is no member and lists one.
-pub(crate) fn any_outsider_lists(group: &[u64], peers: &[u64], pes: usize) -> bool
-    requires { ⌜ pes ≤ mostPes ⌝ }
+// One of the first `pes` PEs is no member and lists one of those that are.
+pub(crate) fn any_outsider_lists(group: &[u64], peers: &[u64], pes: u16) -> bool
     ensures { λ r. ⌜ r ≡ anyOutsiderLists (now (group .entry)) (now (peers .entry)) pes ⌝ }
 {
-    let mut left: usize = pes;
+    let mut left = pes;
     while 0 < left {
         let k = left - 1;
-        if outsider_lists(group, peers, k) {
+        if outsider_lists(group, peers, pes, k) {
             return true;
         }
         left -= 1;

@@ -25,7 +25,7 @@ fn interrupt_seen(group: &[u64], interrupts: &[u64], index: usize) -> bool
     if index % INTERRUPT_WORDS == 0 {
         return true;
     }
-    let pe = words::word(interrupts, index / INTERRUPT_WORDS * INTERRUPT_WORDS);
+    let pe = words::pe_word(interrupts, index / INTERRUPT_WORDS * INTERRUPT_WORDS);
     members::is_member(group, pe)
 }
 

@@ -1,4 +1,5 @@
 // The interrupts: the lent table of their words, and the ranges that the words have to be in.
+use kinds::number::NO_PE;
 use kinds::number::PeNumber;
 use kinds::record::Interrupt;
 use profile::limits;
@@ -18,7 +19,7 @@ pub const P: u64 = 2;
 
 pub const Q: u64 = 1;
 
-// The words of an interrupt; all 0 where the table has none.
+// The words of an interrupt; where the table has none it is no PE's.
 pub fn interrupt_at(interrupts: &[u64], number: u64) -> Interrupt
     ensures { λ r. ⌜ r ≡ interruptIn (now (interrupts .entry)) number ⌝ }
 {
@@ -26,14 +27,14 @@ pub fn interrupt_at(interrupts: &[u64], number: u64) -> Interrupt
     if index < interrupts.len() {
         let first = index * INTERRUPT_WORDS;
         return Interrupt {
-            pe: words::word(interrupts, first),
+            pe: words::pe_word(interrupts, first),
             server: words::word(interrupts, first + 1),
             priority: words::word(interrupts, first + 2),
             bits: words::word(interrupts, first + 3),
         };
     }
     Interrupt {
-        pe: 0,
+        pe: NO_PE,
         server: 0,
         priority: 0,
         bits: 0,
@@ -60,7 +61,7 @@ pub fn store(interrupts: &mut [u64], pe: PeNumber, number: u64, priority: u64, b
     let index = number as usize;
     if index < interrupts.len() {
         let first = index * INTERRUPT_WORDS;
-        if words::word(interrupts, first) == pe.0 as u64 {
+        if words::pe_word(interrupts, first) == pe.0 as u64 {
             words::put(interrupts, first + 2, priority);
             words::put(interrupts, first + 3, bits);
         }

@@ -6,23 +6,18 @@
 --     isolated-met        the claim with own requests by the state that each meets
 --     reason-one-both     if reason 1 holds, it holds for both bridges; reason-one: every answer is then 1, and nothing changes
 -- Assumes nothing.
-use mathlib.Core.Path.{_≡_, refl, sym, ap, ap₂, _∙_}
+use mathlib.Core.Path.{_≡_, sym, ap₂, _∙_}
 use mathlib.Core.Bool.{Bool, false}
 use mathlib.Core.List.{List}
-use Rattle.kinds.specs.Outcome.{refused}
 use Rattle.kinds.specs.declared.answer.Answer.the-variants.{Refuse}
 use Rattle.kinds.specs.declared.answer.Reason.the-variants.{TableLength}
-use Rattle.kinds.specs.declared.lookup.Owner.{Owner}
-use Rattle.kinds.specs.declared.lookup.Owner.the-variants.{Of, Nobody}
 use Rattle.kinds.specs.declared.number.PeNumber.{PeNumber}
-use Rattle.kinds.specs.declared.outcome.Effect.the-variants.{Keep}
-use Rattle.kinds.specs.declared.outcome.Outcome.{Outcome}
 use Rattle.kinds.specs.declared.request.Request.{Request}
-use Rattle.profile.specs.Tables.{Tables, Live, sized}
-use Rattle.profile.specs.Step.{act, actBy, decidedBy, decided, answered, after}
-use Rattle.profile.specs.Owner.{owner}
+use Rattle.profile.specs.Tables.{sized}
+use Rattle.profile.specs.Step.{answered, after}
 use Rattle.profile.specs.Agree.{belongs, Closed}
 use Rattle.profile.specs.AgreeLaws.{alike-refl, same-refl, held-refl}
+use Rattle.profile.specs.AnswersLaws.{unsized-answered, unsized-keeps}
 use Rattle.isolation.specs.Machine.{mine, replies}
 use Rattle.isolation.specs.Unwind.{chosen-twice, seen-chosen}
 use Rattle.isolation.specs.View.{Bridge, lengthsOf, Public, Written, View}
@@ -60,16 +55,6 @@ isolated-met G a b c v l k e = isolation .isolated G a b c v l k (sym (met-own G
 pub reason-one-both : (a b : Bridge) → Public a b → sized (a .tables .sizes) (lengthsOf a) ≡ sized (b .tables .sizes) (lengthsOf b)
 reason-one-both a b v = ap₂ sized (v .sizes) (v .all-lengths)
 
-kept : (f : Tables) (o : Owner) (s : Live) → actBy f o Keep s ≡ s
-unfolding actBy act
-kept f (Of p) s = refl
-kept f (Nobody r) s = refl
-
-decided-one : (a : Bridge) (q : Request) → sized (a .tables .sizes) (lengthsOf a) ≡ false → decided (a .tables) (a .memory) (a .live) q ≡ refused TableLength
-unfolding decidedBy
-decided-one a q o = rw o
-
 pub reason-one : (a : Bridge) (q : Request) → sized (a .tables .sizes) (lengthsOf a) ≡ false
     → (answered (a .tables) (a .memory) (a .live) q ≡ Refuse TableLength 0) × (after (a .tables) (a .memory) (a .live) q ≡ a .live)
-reason-one a q o =
-    (ap (λ (x : Outcome). x .answer) (decided-one a q o), rw (decided-one a q o) (kept (a .tables) (owner (a .tables) (a .live) q) (a .live)))
+reason-one a q o = (unsized-answered (a .tables) (a .memory) (a .live) q o, unsized-keeps (a .tables) (a .memory) (a .live) q o)

@@ -60,7 +60,7 @@ pub belongs-keeps : (G : PeNumber → Bool) (f : Tables) (m : List ℕ) (s : Liv
 belongs-keeps G f m s q p = ap (owned G) (owner-keeps f (owner f s q) (decided f m s q .effect) s p)
 
 closed-agrees : {G : PeNumber → Bool} {f g : Tables} → Alike G f g → Closed G f → Closed G g
-closed-agrees w c = record { unlisted = λ p k h o g. rw (← vector-agrees w p) (c .unlisted p k (rw (w .sizes) h) o g) }
+closed-agrees w c = record { unlisted = λ p k h b o g. rw (← vector-agrees w p) (c .unlisted p k (rw (w .sizes) h) (rw (w .sizes) b) o g) }
 
 pub laws : {G : PeNumber → Bool} {f g : Tables} {m n : List ℕ} → Closed G f → Alike G f g → Held G f m n
     → Laws (machine G f m) (machine G g n) (λ s t. _≡_) (Same G (f .sizes .interrupts))

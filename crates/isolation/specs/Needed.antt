@@ -1,129 +1,188 @@
 -- Every premise of demand 3 is needed: without any one of them the claim fails.
---     Premise, Holds      the premises of `Isolation`, one by one: `premises` has each from those of the claim, `enough` the claim from all
---     Claim G a b l k     what the claim says of two bridges and two lists
---     Counterexample x    two bridges and two lists that meet every premise but x, and for which the claim fails
+--     Premise, Holds      the premises of `Isolation`, split into all that can differ by itself: `premises` has each from those of the claim, `enough`
+--                         the claim from all. The lengths of requesters, peers, windows and segments are not among them: these tables are public
+--                         themselves, so none of them differs in its length alone
+--     Claim               what the claim says of two bridges and two lists
+--     code                a number for each premise, to tell them apart
+--     Counterexample x    two bridges and two lists, not without requests of the group, that meet every premise but x, and for which the claim fails
 --     needed              THE STATEMENT: there is one for each premise
--- The examples have two PEs. PE 1 has requester 1, a page table of one level, interrupt 0, and every segment of M32.
+--     bridge d            the bridge of the examples: d has for each premise the number that is added to what the premise speaks of. There are two PEs.
+--                         PE 1 has requester 1, a page table of one level, interrupt 0 and all segments but the first, and lists PE 0
+--     changed x n         n for x, 0 for each other premise; unchanged: 0 for each
+--     met                 a premise holds of `bridge unchanged` and `bridge d` where d has 0 for it
+--     told, differs       from an example to its counterexample
 -- Assumes nothing.
-use mathlib.Core.Path.{_≡_, refl, ap}
+use mathlib.Core.Path.{_≡_, refl, sym, ap, _∙_}
 use mathlib.Core.Bool.{Bool, true, false, cond}
 use mathlib.Core.List.{List, [], _∷_, _++_}
-use Prim.Native.Nat.{ℕ, zero, suc, _+_, _%_, _<_}
+use Prim.Native.Nat.{ℕ, zero, suc, _+_, _-_, _*_, _/_, _%_, _<_}
 use native.Mathlib.Omega.{arith}
-use lib.Dec.{eqb}
-use lib.ListN.{set, replicate}
-use borrow.Author.Tests.{eqb-true, eqb-false, eq-eqb}
+use lib.Dec.{ltb, eqb}
+use lib.ListN.{length, replicate}
+use borrow.Author.Tests.{eq-eqb, ne-eqb}
 use Rattle.kinds.specs.Answer.{numbered}
 use Rattle.kinds.specs.Tests.{clash}
-use Rattle.kinds.specs.Words.{at}
+use Rattle.kinds.specs.Words.{at, bitOf}
 use Rattle.kinds.specs.declared.answer.Answer.{Answer}
 use Rattle.kinds.specs.declared.number.PeNumber.{PeNumber}
+use Rattle.kinds.specs.declared.record.Interrupt.{Interrupt}
+use Rattle.kinds.specs.declared.record.Lengths.{Lengths}
 use Rattle.kinds.specs.declared.record.Sizes.{Sizes}
 use Rattle.kinds.specs.declared.request.Direction.the-variants.{Read, Write}
 use Rattle.kinds.specs.declared.request.Request.{Request}
-use Rattle.kinds.specs.declared.request.Request.the-variants.{Dma, Load, Error}
-use Rattle.profile.specs.Tables.{Tables}
+use Rattle.kinds.specs.declared.request.Request.the-variants.{Error}
+use Rattle.profile.specs.Tables.{entryWords, peerWords, windowWords, segmentCount}
 use Rattle.profile.specs.Freeze.{stopWord, reasonWord, valueWord}
 use Rattle.profile.specs.Entry.{entry}
 use Rattle.profile.specs.Msi.{interrupt}
 use Rattle.profile.specs.Opened.{opened}
 use Rattle.profile.specs.Agree.{interruptPe, Closed, Reads}
-use Rattle.isolation.specs.View.{Bridge, lengthsOf, Written, View}
+use Rattle.isolation.specs.View.{Bridge, Public, Written, View}
 use Rattle.isolation.specs.Isolation.{own, answers, left, isolation}
+use Rattle.isolation.specs.Bridges.{pe, row, dma, load}
 
 pub data Premise : Type 0 where
-  NotListed SameSizes SameLengths SameRequesters SamePeers SameWindows SameSegments SamePes : Premise
-  SameStops SameReasons SameValues SameInterrupts SameEntries SameWords SameRequests : Premise
+  NotListed SameRequests SameN SameM SameR : Premise
+  SameEntriesLength SameMemoryLength SameInterruptsLength SameStateLength : Premise
+  SameRequesters SamePeers SameWindows SameSegments SameInterruptPe : Premise
+  SameServer SamePriority SameBits SameMmio SameDma SameReason SameValue : Premise
+  SameFirstEntry SameSecondEntry SameTableWord : Premise
 
-abbrev pub Claim : (PeNumber → Bool) → Bridge → Bridge → (l k : List Request) → Type 0
-Claim G a b l k = (answers G a l ≡ answers G b k) × Written G (a .tables .sizes .interrupts) (left a l) (left b k)
+abbrev sizes : (n m r : ℕ) → Sizes
+sizes n m r = record { pes = n; interrupts = m; requesters = r }
 
-abbrev pub Holds : (PeNumber → Bool) → Bridge → Bridge → (l k : List Request) → Premise → Type 0
-Holds G a b l k NotListed = Closed G (a .tables)
-Holds G a b l k SameSizes = a .tables .sizes ≡ b .tables .sizes
-Holds G a b l k SameLengths = lengthsOf a ≡ lengthsOf b
-Holds G a b l k SameRequesters = a .tables .requesters ≡ b .tables .requesters
-Holds G a b l k SamePeers = a .tables .peers ≡ b .tables .peers
-Holds G a b l k SameWindows = a .tables .windows ≡ b .tables .windows
-Holds G a b l k SameSegments = a .tables .segments ≡ b .tables .segments
-Holds G a b l k SamePes = (i : ℕ) → i < a .tables .sizes .interrupts → interrupt (a .live) i .pe ≡ interrupt (b .live) i .pe
-Holds G a b l k SameStops = (p : PeNumber) → G p ≡ true → at (a .live .state) (stopWord p) % 4 ≡ at (b .live .state) (stopWord p) % 4
-Holds G a b l k SameReasons = (p : PeNumber) → G p ≡ true → at (a .live .state) (reasonWord p) ≡ at (b .live .state) (reasonWord p)
-Holds G a b l k SameValues = (p : PeNumber) → G p ≡ true → at (a .live .state) (valueWord p) ≡ at (b .live .state) (valueWord p)
-Holds G a b l k SameInterrupts =
-    (i : ℕ) → i < a .tables .sizes .interrupts → G (interruptPe (a .live) i) ≡ true → interrupt (a .live) i ≡ interrupt (b .live) i
-Holds G a b l k SameEntries = (p : PeNumber) → G p ≡ true → (h : ℕ) → h < 2 → entry (a .tables) p h ≡ entry (b .tables) p h
-Holds G a b l k SameWords = (n : ℕ) → Reads G (a .tables) (a .memory) n → at (a .memory) n ≡ at (b .memory) n
-Holds G a b l k SameRequests = own G a l ≡ own G b k
+module _ (G : PeNumber → Bool) (a b : Bridge) (l k : List Request) where
+  abbrev pub Claim : Type 0
+  Claim = (answers G a l ≡ answers G b k) × Written G (a .tables .sizes .interrupts) (left a l) (left b k)
 
--- a proof for each premise
-each : (H : Premise → Type 0) → H NotListed → H SameSizes → H SameLengths → H SameRequesters → H SamePeers → H SameWindows → H SameSegments → H SamePes
-    → H SameStops → H SameReasons → H SameValues → H SameInterrupts → H SameEntries → H SameWords → H SameRequests → (y : Premise) → H y
-each H a b c d e f g h i j k l m n o NotListed = a
-each H a b c d e f g h i j k l m n o SameSizes = b
-each H a b c d e f g h i j k l m n o SameLengths = c
-each H a b c d e f g h i j k l m n o SameRequesters = d
-each H a b c d e f g h i j k l m n o SamePeers = e
-each H a b c d e f g h i j k l m n o SameWindows = f
-each H a b c d e f g h i j k l m n o SameSegments = g
-each H a b c d e f g h i j k l m n o SamePes = h
-each H a b c d e f g h i j k l m n o SameStops = i
-each H a b c d e f g h i j k l m n o SameReasons = j
-each H a b c d e f g h i j k l m n o SameValues = k
-each H a b c d e f g h i j k l m n o SameInterrupts = l
-each H a b c d e f g h i j k l m n o SameEntries = m
-each H a b c d e f g h i j k l m n o SameWords = n
-each H a b c d e f g h i j k l m n o SameRequests = o
+  -- f is equal for each member, and for each interrupt of a member
+  abbrev pub OfMembers : {T : Type 0} → (Bridge → PeNumber → T) → Type 0
+  OfMembers f = (p : PeNumber) → G p ≡ true → f a p ≡ f b p
 
-pub premises : (G : PeNumber → Bool) (a b : Bridge) (l k : List Request) → Closed G (a .tables) → View G a b → own G a l ≡ own G b k
-    → (x : Premise) → Holds G a b l k x
-premises G a b l k c v e =
-    let p = v .public in
-    let w = v .written in
-    each (Holds G a b l k) c (p .sizes) (p .all-lengths) (p .requesters) (p .peers) (p .windows) (p .segments) (p .interrupt-pe)
-    (w .stop-bits) (w .reason) (w .value) (w .interrupts) (v .entries) (v .table-words) e
+  abbrev pub OfInterrupts : (Interrupt → ℕ) → Type 0
+  OfInterrupts f =
+      (i : ℕ) → i < a .tables .sizes .interrupts → G (interruptPe (a .live) i) ≡ true → f (interrupt (a .live) i) ≡ f (interrupt (b .live) i)
 
-view : (G : PeNumber → Bool) (a b : Bridge) (l k : List Request) → ((x : Premise) → Holds G a b l k x) → View G a b
-view G a b l k h = record {
-  public = record {
-    sizes = h SameSizes;
-    all-lengths = h SameLengths;
-    requesters = h SameRequesters;
-    peers = h SamePeers;
-    windows = h SameWindows;
-    segments = h SameSegments;
-    interrupt-pe = h SamePes;
-  };
-  written = record { stop-bits = h SameStops; reason = h SameReasons; value = h SameValues; interrupts = h SameInterrupts };
-  entries = h SameEntries;
-  table-words = h SameWords;
-}
+  abbrev pub Holds : Premise → Type 0
+  Holds NotListed = Closed G (a .tables)
+  Holds SameRequests = own G a l ≡ own G b k
+  Holds SameN = a .tables .sizes .pes ≡ b .tables .sizes .pes
+  Holds SameM = a .tables .sizes .interrupts ≡ b .tables .sizes .interrupts
+  Holds SameR = a .tables .sizes .requesters ≡ b .tables .sizes .requesters
+  Holds SameEntriesLength = length (a .tables .entries) ≡ length (b .tables .entries)
+  Holds SameMemoryLength = length (a .memory) ≡ length (b .memory)
+  Holds SameInterruptsLength = length (a .live .interrupts) ≡ length (b .live .interrupts)
+  Holds SameStateLength = length (a .live .state) ≡ length (b .live .state)
+  Holds SameRequesters = a .tables .requesters ≡ b .tables .requesters
+  Holds SamePeers = a .tables .peers ≡ b .tables .peers
+  Holds SameWindows = a .tables .windows ≡ b .tables .windows
+  Holds SameSegments = a .tables .segments ≡ b .tables .segments
+  Holds SameInterruptPe = (i : ℕ) → i < a .tables .sizes .interrupts → interrupt (a .live) i .pe ≡ interrupt (b .live) i .pe
+  Holds SameServer = OfInterrupts (λ e. e .server)
+  Holds SamePriority = OfInterrupts (λ e. e .priority)
+  Holds SameBits = OfInterrupts (λ e. e .bits)
+  Holds SameMmio = OfMembers (λ x p. at (x .live .state) (stopWord p) % 2)
+  Holds SameDma = OfMembers (λ x p. at (x .live .state) (stopWord p) / 2 % 2)
+  Holds SameReason = OfMembers (λ x p. at (x .live .state) (reasonWord p))
+  Holds SameValue = OfMembers (λ x p. at (x .live .state) (valueWord p))
+  Holds SameFirstEntry = OfMembers (λ x p. entry (x .tables) p 0)
+  Holds SameSecondEntry = OfMembers (λ x p. entry (x .tables) p 1)
+  Holds SameTableWord = (n : ℕ) → Reads G (a .tables) (a .memory) n → at (a .memory) n ≡ at (b .memory) n
 
-pub enough : (G : PeNumber → Bool) (a b : Bridge) (l k : List Request) → ((x : Premise) → Holds G a b l k x) → Claim G a b l k
-enough G a b l k h = isolation .isolated G a b (h NotListed) (view G a b l k h) l k (h SameRequests)
+  pub premises : Closed G (a .tables) → View G a b → own G a l ≡ own G b k → (x : Premise) → Holds x
+  premises c v o NotListed = c
+  premises c v o SameRequests = o
+  premises c v o SameN = ap (λ (z : Sizes). z .pes) (v .public .sizes)
+  premises c v o SameM = ap (λ (z : Sizes). z .interrupts) (v .public .sizes)
+  premises c v o SameR = ap (λ (z : Sizes). z .requesters) (v .public .sizes)
+  premises c v o SameEntriesLength = ap (λ (n : Lengths). n .entries) (v .public .all-lengths)
+  premises c v o SameMemoryLength = ap (λ (n : Lengths). n .memory) (v .public .all-lengths)
+  premises c v o SameInterruptsLength = ap (λ (n : Lengths). n .interrupts) (v .public .all-lengths)
+  premises c v o SameStateLength = ap (λ (n : Lengths). n .state) (v .public .all-lengths)
+  premises c v o SameRequesters = v .public .requesters
+  premises c v o SamePeers = v .public .peers
+  premises c v o SameWindows = v .public .windows
+  premises c v o SameSegments = v .public .segments
+  premises c v o SameInterruptPe = v .public .interrupt-pe
+  premises c v o SameServer = λ i h g. ap (λ (e : Interrupt). e .server) (v .written .interrupts i h g)
+  premises c v o SamePriority = λ i h g. ap (λ (e : Interrupt). e .priority) (v .written .interrupts i h g)
+  premises c v o SameBits = λ i h g. ap (λ (e : Interrupt). e .bits) (v .written .interrupts i h g)
+  premises c v o SameMmio = λ p g. let z = v .written .stop-bits p g in omega arith
+  premises c v o SameDma = λ p g. let z = v .written .stop-bits p g in omega arith
+  premises c v o SameReason = v .written .reason
+  premises c v o SameValue = v .written .value
+  premises c v o SameFirstEntry = λ p g. v .entries p g 0 (omega arith)
+  premises c v o SameSecondEntry = λ p g. v .entries p g 1 (omega arith)
+  premises c v o SameTableWord = v .table-words
+
+  module _ (h : (x : Premise) → Holds x) where
+    public : Public a b
+    public = record {
+      sizes =
+          let z : a .tables .sizes ≡ sizes (a .tables .sizes .pes) (a .tables .sizes .interrupts) (a .tables .sizes .requesters) = refl in
+          rw (z, h SameN, h SameM, h SameR);
+      all-lengths = rw (
+        h SameRequesters,
+        h SameEntriesLength,
+        h SameMemoryLength,
+        h SamePeers,
+        h SameInterruptsLength,
+        h SameWindows,
+        h SameSegments,
+        h SameStateLength,
+      );
+      requesters = h SameRequesters;
+      peers = h SamePeers;
+      windows = h SameWindows;
+      segments = h SameSegments;
+      interrupt-pe = h SameInterruptPe;
+    }
+
+    written : Written G (a .tables .sizes .interrupts) (a .live) (b .live)
+    written = record {
+      stop-bits = λ p g. let m = h SameMmio p g in let d = h SameDma p g in omega arith;
+      reason = h SameReason;
+      value = h SameValue;
+      interrupts = λ i n g. rw (h SameInterruptPe i n, h SameServer i n g, h SamePriority i n g, h SameBits i n g);
+    }
+
+    entries : (p : PeNumber) → G p ≡ true → (n : ℕ) → n < 2 → entry (a .tables) p n ≡ entry (b .tables) p n
+    entries p g zero n = h SameFirstEntry p g
+    entries p g (suc zero) n = h SameSecondEntry p g
+    entries p g (suc (suc j)) n = absurd (omega arith)
+
+    pub enough : Claim
+    enough =
+        let v : View G a b = record { public = public; written = written; entries = entries; table-words = h SameTableWord } in
+        isolation .isolated G a b (h NotListed) v l k (h SameRequests)
 
 -- ---- a counterexample
 
 abbrev pub code : Premise → ℕ
 code NotListed = 0
-code SameSizes = 1
-code SameLengths = 2
-code SameRequesters = 3
-code SamePeers = 4
-code SameWindows = 5
-code SameSegments = 6
-code SamePes = 7
-code SameStops = 8
-code SameReasons = 9
-code SameValues = 10
-code SameInterrupts = 11
-code SameEntries = 12
-code SameWords = 13
-code SameRequests = 14
-
--- P, where y is another premise than x
-abbrev pub Unless : (x y : Premise) → Type 0 → Type 0
-Unless x y P = cond (eqb (code y) (code x)) (Unit {0}) P
+code SameRequests = 1
+code SameN = 2
+code SameM = 3
+code SameR = 4
+code SameEntriesLength = 5
+code SameMemoryLength = 6
+code SameInterruptsLength = 7
+code SameStateLength = 8
+code SameRequesters = 9
+code SamePeers = 10
+code SameWindows = 11
+code SameSegments = 12
+code SameInterruptPe = 13
+code SameServer = 14
+code SamePriority = 15
+code SameBits = 16
+code SameMmio = 17
+code SameDma = 18
+code SameReason = 19
+code SameValue = 20
+code SameFirstEntry = 21
+code SameSecondEntry = 22
+code SameTableWord = 23
 
 pub record Counterexample (x : Premise) : Type 0 where
   pub group : PeNumber → Bool
@@ -131,203 +190,205 @@ pub record Counterexample (x : Premise) : Type 0 where
   pub second : Bridge
   pub list : List Request
   pub other : List Request
-  pub others : (y : Premise) → Unless x y (Holds group first second list other y)
-  pub fails : Claim group first second list other → ⊥
+  -- the group has requests
+  pub asked : ltb 0 (length (own group first list)) ≡ true
+  pub others : (y : Premise) → ¬ (code y ≡ code x) → Holds group first second list other y
+  pub fails : ¬ Claim group first second list other
 
--- the sum of all numbers of a list of answers
-total : List Answer → ℕ
-total [] = 0
-total (x ∷ l) = numbered x .name + numbered x .reason + numbered x .value + numbered x .words + numbered x .pe + numbered x .server + total l
+-- ---- the bridge of the examples
 
--- the answers differ: even their sums do
-told : (x : Premise) (G : PeNumber → Bool) (a b : Bridge) (l k : List Request) → ((y : Premise) → Unless x y (Holds G a b l k y))
-    → eqb (total (answers G a l)) (total (answers G b k)) ≡ false → Counterexample x
-told x G a b l k h e = record {
-  group = G;
-  first = a;
-  second = b;
-  list = l;
-  other = k;
-  others = h;
-  fails = λ c. clash (eq-eqb (total (answers G a l)) (total (answers G b k)) (ap total (c .0))) e;
+unfoldable bridge : (Premise → ℕ) → Bridge
+bridge d = record {
+  tables = record {
+    sizes = sizes (2 + d SameN) (1 + d SameM) (2 + d SameR);
+    requesters = d SameRequesters ∷ 1 ∷ [];
+    entries =
+        replicate entryWords 0
+        ++ (0 ∷ 1 ∷ 1 ∷ (1 + d SameFirstEntry) ∷ 0 ∷ 1 ∷ d SameSecondEntry ∷ 0 ∷ replicate (d SameEntriesLength) 0);
+    peers = d SamePeers ∷ 0 ∷ 0 ∷ 0 ∷ 1 ∷ 0 ∷ 0 ∷ 0 ∷ [];
+    windows = 0x100000000 ∷ 0x10000000 ∷ (0x80000000 + d SameWindows) ∷ replicate (windowWords - 3) 0;
+    segments = d SameSegments ∷ replicate (segmentCount - 1) 1;
+  };
+  memory = 0 ∷ 0 ∷ 0 ∷ (0x12345003 + d SameTableWord) ∷ replicate (d SameMemoryLength) 0;
+  live = record {
+    state = row 0 0 0 ++ (row (d SameMmio % 2 + 2 * d SameDma) (d SameReason) (d SameValue) ++ replicate (d SameStateLength) 0);
+    interrupts = (1 + d SameInterruptPe) ∷ (5 + d SameServer) ∷ (6 + d SamePriority) ∷ d SameBits ∷ replicate (d SameInterruptsLength) 0;
+  };
 }
 
--- the words differ after no request
-untold : (x : Premise) (G : PeNumber → Bool) (a b : Bridge) → ((y : Premise) → Unless x y (Holds G a b [] [] y)) → (Claim G a b [] [] → ⊥)
-    → Counterexample x
-untold x G a b h e = record { group = G; first = a; second = b; list = []; other = []; others = h; fails = e }
+abbrev unchanged : Premise → ℕ
+unchanged y = 0
 
--- ---- the examples
+abbrev changed : Premise → (n : ℕ) → Premise → ℕ
+changed x n y = cond (eqb (code y) (code x)) n 0
 
-abbrev one : PeNumber → Bool
-one p = eqb (p .0) 1
+-- PEs 0 and 1, each a member or not, and no other
+abbrev picked : (zero one : Bool) → ℕ → Bool
+picked a b zero = a
+picked a b (suc zero) = b
+picked a b (suc (suc n)) = false
 
-abbrev everyone : PeNumber → Bool
-everyone p = true
+abbrev group : (zero one : Bool) → PeNumber → Bool
+group a b p = picked a b (p .0)
 
-abbrev sizes : Sizes
-sizes = record { pes = 2; interrupts = 1; requesters = 2 }
+members : (a b : Bool) (P : PeNumber → Type 0) → P (pe 0) → P (pe 1) → (p : PeNumber) → group a b p ≡ true → P p
+members a b P x y p = go (p .0)
+  where
+    go : (n : ℕ) → picked a b n ≡ true → P (pe n)
+    go zero u = x
+    go (suc zero) u = y
+    go (suc (suc n)) u = clash u refl
 
-abbrev requesters : List ℕ
-requesters = 0 ∷ 1 ∷ []
+outsider : (a : Bool) (n : ℕ) → n < 2 → picked a true n ≡ false → n ≡ 0
+outsider a zero h o = refl
+outsider a (suc zero) h o = clash refl o
+outsider a (suc (suc n)) h o = absurd (omega arith)
 
-abbrev entries : List ℕ
-entries = replicate 8 0 ++ (0 ∷ 1 ∷ 1 ∷ 1 ∷ replicate 4 0)
-
-abbrev peers : List ℕ
-peers = replicate 8 0
-
-windows : List ℕ
-windows = 0x100000000 ∷ 0x10000000 ∷ 0x80000000 ∷ replicate 64 0
-
-segments : List ℕ
-segments = replicate 256 1
-
-memory : List ℕ
-memory = set (replicate 512 0) 3 0x12345003
-
-abbrev state : List ℕ
-state = replicate 6 0
-
-abbrev interrupts : List ℕ
-interrupts = 1 ∷ 5 ∷ 6 ∷ 0 ∷ []
-
-abbrev made : Sizes → (requesters entries peers windows segments memory state interrupts : List ℕ) → Bridge
-made z r e p w g m s i = record {
-  tables = record { sizes = z; requesters = r; entries = e; peers = p; windows = w; segments = g };
-  memory = m;
-  live = record { state = s; interrupts = i };
+-- PE 0 lists nobody
+closed : (a : Bool) → Closed (group a true) (bridge unchanged .tables)
+unfolding bridge
+closed a = record {
+  unlisted = λ p k h b o u. rw (outsider a (p .0) h o) (members a true (λ k. bitOf (replicate peerWords 0) (k .0) ≡ false) refl refl k u);
 }
-
-abbrev base : Bridge
-base = made sizes requesters entries peers windows segments memory state interrupts
-
--- PE 0 lists PE 1
-abbrev listing : Bridge
-listing = made sizes requesters entries (2 ∷ replicate 7 0) windows segments memory state interrupts
-
--- a read of PE 1 through word 3 of its table, an MSI of interrupt 0, and a load
-abbrev read : Request
-read = Dma 1 Read (record { 0 = 0x3ABC }) 4 0
-
-abbrev signal : Request
-signal = Dma 1 Write (record { 0 = 0x1000000000000000 }) 4 0
-
-abbrev load : Request
-load = Load (record { 0 = 0x100000010 }) 4
-
-closed-one : (f : Tables) → f .peers ≡ peers → f .sizes .pes ≡ 2 → Closed one f
-closed-one f e z = record {
-  unlisted = λ p k h o u.
-      let b : p .0 < 2 = rw (← z) h in
-      let i = eqb-false (p .0) 1 o in
-      let j : p .0 ≡ 0 = omega arith in
-      rw (e, j, eqb-true (k .0) 1 u);
-}
-
-closed-all : (f : Tables) → Closed everyone f
-closed-all f = record { unlisted = λ p k h o u. clash refl o }
 
 -- the one interrupt
 only : (P : ℕ → Type 0) → P 0 → (i : ℕ) → i < 1 → P i
 only P x zero h = x
 only P x (suc i) h = absurd (omega arith)
 
+-- no word changes where zeros follow the last one
+zeros : (k n : ℕ) → at (replicate k 0) n ≡ 0
+zeros zero n = refl
+zeros (suc k) zero = refl
+zeros (suc k) (suc n) = zeros k n
+
+padded : (l : List ℕ) (k n : ℕ) → at (l ++ replicate k 0) n ≡ at l n
+padded [] k n = zeros k n
+padded (x ∷ l) k zero = refl
+padded (x ∷ l) k (suc n) = padded l k n
+
+module _ (a b : Bool) (d : Premise → ℕ) (l k : List Request) (c : d NotListed ≡ 0 → b ≡ true)
+    (o : d SameRequests ≡ 0 → own (group a b) (bridge unchanged) l ≡ own (group a b) (bridge d) k) where
+  met : (y : Premise) → d y ≡ 0 → Holds (group a b) (bridge unchanged) (bridge d) l k y
+  unfolding bridge
+  met NotListed e = rw (c e) (closed a)
+  met SameRequests e = o e
+  met SameN e = rw e
+  met SameM e = rw e
+  met SameR e = rw e
+  met SameEntriesLength e = rw e
+  met SameMemoryLength e = rw e
+  met SameInterruptsLength e = rw e
+  met SameStateLength e = rw e
+  met SameRequesters e = rw e
+  met SamePeers e = rw e
+  met SameWindows e = rw e
+  met SameSegments e = rw e
+  met SameInterruptPe e = only _ (rw e)
+  met SameServer e = only _ (λ u. rw e)
+  met SamePriority e = only _ (λ u. rw e)
+  met SameBits e = only _ (λ u. rw e)
+  met SameMmio e = members a b _ refl (omega arith)
+  met SameDma e = members a b _ refl (omega arith)
+  met SameReason e = members a b _ refl (rw e)
+  met SameValue e = members a b _ refl (rw e)
+  met SameFirstEntry e = members a b _ refl (rw e)
+  met SameSecondEntry e = members a b _ refl (rw e)
+  met SameTableWord e = λ n r.
+      ap (λ x. at (0 ∷ 0 ∷ 0 ∷ (0x12345003 + x) ∷ []) n) (sym e)
+      ∙ sym (padded (0 ∷ 0 ∷ 0 ∷ (0x12345003 + d SameTableWord) ∷ []) (d SameMemoryLength) n)
+
+-- ---- the claim fails
+
+-- the sum of all numbers of a list of answers
+total : List Answer → ℕ
+total [] = 0
+total (x ∷ l) = let n = numbered x in n .name + n .reason + n .value + n .words + n .pe + n .server + n .priority + total l
+
+-- the same of the group's answers, and of the error record that a list leaves to PE p: by the claim they are equal
+shown : (PeNumber → Bool) → Bridge → List Request → (p : ℕ) → ℕ
+shown G a l p = total (answers G a l) + at (left a l .state) (reasonWord (pe p)) + at (left a l .state) (valueWord (pe p))
+
+shown-same : (G : PeNumber → Bool) (a b : Bridge) (l k : List Request) (p : ℕ) → G (pe p) ≡ true → Claim G a b l k → shown G a l p ≡ shown G b k p
+unfolding shown
+shown-same G a b l k p g c = rw (c .0, c .1 .reason (pe p) g, c .1 .value (pe p) g)
+
+told : {x : Premise} (n : ℕ) (a b : Bool) (p : ℕ) (l k : List Request) → (changed x n NotListed ≡ 0 → b ≡ true)
+    → (changed x n SameRequests ≡ 0 → own (group a b) (bridge unchanged) l ≡ own (group a b) (bridge (changed x n)) k)
+    → ltb 0 (length (own (group a b) (bridge unchanged) l)) ≡ true
+    → group a b (pe p) ≡ true → eqb (shown (group a b) (bridge unchanged) l p) (shown (group a b) (bridge (changed x n)) k p) ≡ false
+    → Counterexample x
+told {x} n a b p l k c o m g e = record {
+  group = group a b;
+  first = bridge unchanged;
+  second = bridge (changed x n);
+  list = l;
+  other = k;
+  asked = m;
+  others = λ y h. met a b (changed x n) l k c o y (rw (ne-eqb (code y) (code x) h));
+  fails = λ z. clash (eq-eqb _ _ (shown-same (group a b) (bridge unchanged) (bridge (changed x n)) l k p g z)) e;
+}
+
+-- one list for both bridges, and PE 1 a member; `a` says whether PE 0 is one
+differs : {x : Premise} (n : ℕ) (a : Bool) (l : List Request) → own (group a true) (bridge unchanged) l ≡ own (group a true) (bridge (changed x n)) l
+    → ltb 0 (length (own (group a true) (bridge unchanged) l)) ≡ true
+    → eqb (shown (group a true) (bridge unchanged) l 1) (shown (group a true) (bridge (changed x n)) l 1) ≡ false → Counterexample x
+differs n a l o m e = told n a true 1 l l (λ z. refl) (λ z. o) m refl e
+
+-- ---- the examples
+
+-- a read through word 3 of PE 1's table, an MSI of interrupt 0, and a load in a segment
+abbrev read : (requester : ℕ) → Request
+read r = dma r Read 0x3ABC 0
+
+abbrev signal : Request
+signal = dma 1 Write 0x1000000000000000 0
+
+abbrev inSegment : ℕ → Request
+inSegment n = load (0x100000000 + 0x100000 * n) 4
+
 unfoldable examples : Unit {0}
-unfolding opened windows segments memory total
+unfolding opened bridge total shown
 examples = tt
 
 pub needed : (x : Premise) → Counterexample x
 unfolding examples
--- PE 0 lists PE 1, and an error message of PE 0 stops it
-needed NotListed =
-    told NotListed one listing listing (Error 0 ∷ read ∷ []) (read ∷ [])
-    (each _ tt refl refl refl refl refl refl
-    (λ i h. refl) (λ p u. refl) (λ p u. refl) (λ p u. refl) (λ i h u. refl)
-    (λ p u h b. refl) (λ n r. refl) refl) refl
--- N is 3 in the second, where the lengths are then wrong
-needed SameSizes =
-    told SameSizes one base (made (record { pes = 3; interrupts = 1; requesters = 2 }) requesters entries peers windows segments memory state interrupts) (read ∷ []) (read ∷ [])
-    (each _ (closed-one _ refl refl) tt refl refl refl refl refl
-    (λ i h. refl) (λ p u. refl) (λ p u. refl) (λ p u. refl) (λ i h u. refl)
-    (λ p u h b. refl) (λ n r. refl) refl) refl
--- the state has one word more in the second
-needed SameLengths =
-    told SameLengths one base (made sizes requesters entries peers windows segments memory (replicate 7 0) interrupts) (read ∷ []) (read ∷ [])
-    (each _ (closed-one _ refl refl) refl tt refl refl refl refl
-    (λ i h. refl) (λ p u. rw (eqb-true (p .0) 1 u)) (λ p u. rw (eqb-true (p .0) 1 u)) (λ p u. rw (eqb-true (p .0) 1 u)) (λ i h u. refl)
-    (λ p u h b. refl) (λ n r. refl) refl) refl
--- requester 1 is PE 0 in the second, which has no entry
-needed SameRequesters =
-    told SameRequesters everyone base (made sizes (1 ∷ 0 ∷ []) entries peers windows segments memory state interrupts) (read ∷ []) (read ∷ [])
-    (each _ (closed-all _) refl refl tt refl refl refl
-    (λ i h. refl) (λ p u. refl) (λ p u. refl) (λ p u. refl) (λ i h u. refl)
-    (λ p u h b. refl) (λ n r. refl) refl) refl
--- PE 0 lists PE 1 in the first
-needed SamePeers =
-    told SamePeers everyone listing base (Error 0 ∷ read ∷ []) (Error 0 ∷ read ∷ [])
-    (each _ (closed-all _) refl refl refl tt refl refl
-    (λ i h. refl) (λ p u. refl) (λ p u. refl) (λ p u. refl) (λ i h u. refl)
-    (λ p u h b. refl) (λ n r. refl) refl) refl
--- another PCI base in the second
-needed SameWindows =
-    told SameWindows one base (made sizes requesters entries peers (set windows 2 0x90000000) segments memory state interrupts) (load ∷ []) (load ∷ [])
-    (each _ (closed-one _ refl refl) refl refl refl refl tt refl
-    (λ i h. refl) (λ p u. refl) (λ p u. refl) (λ p u. refl) (λ i h u. refl)
-    (λ p u h b. refl) (λ n r. refl) refl) refl
--- the segments are PE 0's in the second
-needed SameSegments =
-    told SameSegments everyone base (made sizes requesters entries peers windows (replicate 256 0) memory state interrupts) (load ∷ []) (load ∷ [])
-    (each _ (closed-all _) refl refl refl refl refl tt
-    (λ i h. refl) (λ p u. refl) (λ p u. refl) (λ p u. refl) (λ i h u. refl)
-    (λ p u h b. refl) (λ n r. refl) refl) refl
--- the interrupt is PE 0's in the first
-needed SamePes =
-    told SamePes one (made sizes requesters entries peers windows segments memory state (0 ∷ 5 ∷ 6 ∷ 0 ∷ [])) base (signal ∷ []) (signal ∷ [])
-    (each _ (closed-one _ refl refl) refl refl refl refl refl refl
-    tt (λ p u. refl) (λ p u. refl) (λ p u. refl) (only _ (λ u. clash u refl))
-    (λ p u h b. refl) (λ n r. refl) refl) refl
--- PE 1 is DMA stopped in the second
-needed SameStops =
-    told SameStops one base (made sizes requesters entries peers windows segments memory (set state 3 2) interrupts) (read ∷ []) (read ∷ [])
-    (each _ (closed-one _ refl refl) refl refl refl refl refl refl
-    (λ i h. refl) tt (λ p u. rw (eqb-true (p .0) 1 u)) (λ p u. rw (eqb-true (p .0) 1 u)) (λ i h u. refl)
-    (λ p u h b. refl) (λ n r. refl) refl) refl
--- another reason in the error record
-needed SameReasons =
-    untold SameReasons one base (made sizes requesters entries peers windows segments memory (set state 4 7) interrupts)
-    (each _ (closed-one _ refl refl) refl refl refl refl refl refl
-    (λ i h. refl) (λ p u. rw (eqb-true (p .0) 1 u)) tt (λ p u. rw (eqb-true (p .0) 1 u)) (λ i h u. refl)
-    (λ p u h b. refl) (λ n r. refl) refl)
-    (λ c. let z : _≡_ {A = ℕ} 0 7 = c .1 .reason (record { 0 = 1 }) refl in omega arith)
--- another value in the error record
-needed SameValues =
-    untold SameValues one base (made sizes requesters entries peers windows segments memory (set state 5 7) interrupts)
-    (each _ (closed-one _ refl refl) refl refl refl refl refl refl
-    (λ i h. refl) (λ p u. rw (eqb-true (p .0) 1 u)) (λ p u. rw (eqb-true (p .0) 1 u)) tt (λ i h u. refl)
-    (λ p u h b. refl) (λ n r. refl) refl)
-    (λ c. let z : _≡_ {A = ℕ} 0 7 = c .1 .value (record { 0 = 1 }) refl in omega arith)
--- another server in the second
-needed SameInterrupts =
-    told SameInterrupts one base (made sizes requesters entries peers windows segments memory state (1 ∷ 9 ∷ 6 ∷ 0 ∷ [])) (signal ∷ []) (signal ∷ [])
-    (each _ (closed-one _ refl refl) refl refl refl refl refl refl
-    (only _ refl) (λ p u. refl) (λ p u. refl) (λ p u. refl) tt
-    (λ p u h b. refl) (λ n r. refl) refl) refl
--- PE 1 is in bypass in the second
-needed SameEntries =
-    told SameEntries one base (made sizes requesters (set entries 11 0) peers windows segments memory state interrupts) (read ∷ []) (read ∷ [])
-    (each _ (closed-one _ refl refl) refl refl refl refl refl refl
-    (λ i h. refl) (λ p u. refl) (λ p u. refl) (λ p u. refl) (λ i h u. refl)
-    tt (λ n r. refl) refl) refl
--- another table word in the second
-needed SameWords =
-    told SameWords one base (made sizes requesters entries peers windows segments (set memory 3 0x777003) state interrupts) (read ∷ []) (read ∷ [])
-    (each _ (closed-one _ refl refl) refl refl refl refl refl refl
-    (λ i h. refl) (λ p u. refl) (λ p u. refl) (λ p u. refl) (λ i h u. refl)
-    (λ p u h b. refl) tt refl) refl
+-- PE 1 lists PE 0, which is the group, and an error message of PE 1 stops it
+needed NotListed = told 1 true false 0 (Error 1 ∷ read 0 ∷ []) (read 0 ∷ []) (λ z. absurd (omega arith)) (λ z. refl) refl refl refl
 -- the same requests in another order
 needed SameRequests =
-    told SameRequests one base base (Error 1 ∷ read ∷ []) (read ∷ Error 1 ∷ [])
-    (each _ (closed-one _ refl refl) refl refl refl refl refl refl
-    (λ i h. refl) (λ p u. refl) (λ p u. refl) (λ p u. refl) (λ i h u. refl)
-    (λ p u h b. refl) (λ n r. refl) tt) refl
+    told 1 false true 1 (Error 1 ∷ read 1 ∷ []) (read 1 ∷ Error 1 ∷ []) (λ z. refl) (λ z. absurd (omega arith)) refl refl refl
+-- N, M or R is one more in the second, where a length is then wrong
+needed SameN = differs 1 false (read 1 ∷ []) refl refl refl
+needed SameM = differs 1 false (read 1 ∷ []) refl refl refl
+needed SameR = differs 1 false (read 1 ∷ []) refl refl refl
+-- one word more in the second, which is reason 1; in memory it is not, but a walk then finds the word that it asks for
+needed SameEntriesLength = differs 1 false (read 1 ∷ []) refl refl refl
+needed SameMemoryLength = differs 1 false (dma 1 Read 0x4000 0 ∷ []) refl refl refl
+needed SameInterruptsLength = differs 1 false (read 1 ∷ []) refl refl refl
+needed SameStateLength = differs 1 false (read 1 ∷ []) refl refl refl
+-- requester 0 is PE 0, which has no entry, in the first and PE 1 in the second; both are members
+needed SameRequesters = differs 1 true (read 0 ∷ []) refl refl refl
+-- PE 0 lists PE 1 in the second
+needed SamePeers = differs 2 false (Error 0 ∷ read 1 ∷ []) refl refl refl
+-- another PCI base in the second
+needed SameWindows = differs 0x10000000 false (inSegment 1 ∷ []) refl refl refl
+-- the first segment is PE 0's in the first and PE 1's in the second; both are members
+needed SameSegments = differs 1 true (inSegment 0 ∷ []) refl refl refl
+-- the interrupt is nobody's in the second
+needed SameInterruptPe = differs 1 false (signal ∷ []) refl refl refl
+-- another server, another priority, and P set in the second
+needed SameServer = differs 1 false (signal ∷ []) refl refl refl
+needed SamePriority = differs 1 false (signal ∷ []) refl refl refl
+needed SameBits = differs 2 false (signal ∷ []) refl refl refl
+-- PE 1 is MMIO stopped in the second, or DMA stopped
+needed SameMmio = differs 1 false (inSegment 1 ∷ []) refl refl refl
+needed SameDma = differs 1 false (read 1 ∷ []) refl refl refl
+-- the error record is not empty in the second, so an error message does not write it; a read leaves the value as it was
+needed SameReason = differs 7 false (Error 1 ∷ []) refl refl refl
+needed SameValue = differs 7 false (read 1 ∷ []) refl refl refl
+-- PE 1 has pages of 64 KiB in the second; its second entry, disabled in the first, is a bypass in the second
+needed SameFirstEntry = differs 4 false (read 1 ∷ []) refl refl refl
+needed SameSecondEntry = differs 1 false (dma 1 Read 0x800000000000000 0 ∷ []) refl refl refl
+-- another table word in the second
+needed SameTableWord = differs 0x1000 false (read 1 ∷ []) refl refl refl

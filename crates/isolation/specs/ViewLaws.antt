@@ -52,13 +52,14 @@ module _ {G : PeNumber → Bool} {n : ℕ} {s t : Live} where
 
 -- ---- a record, field by field and word by word
 
-interrupt-word : (s t : Live) (i : ℕ) → interrupt s i ≡ interrupt t i → (j : ℕ) → j < interruptWords
+-- each word but the PE's
+interrupt-word : (s t : Live) (i : ℕ) → interrupt s i ≡ interrupt t i → (j : ℕ) → 0 < j → j < interruptWords
     → at (s .interrupts) (i * interruptWords + j) ≡ at (t .interrupts) (i * interruptWords + j)
-interrupt-word s t i e zero h = rw add-zero (ap (λ (x : Interrupt). x .pe) e)
-interrupt-word s t i e (suc zero) h = ap (λ (x : Interrupt). x .server) e
-interrupt-word s t i e (suc (suc zero)) h = ap (λ (x : Interrupt). x .priority) e
-interrupt-word s t i e (suc (suc (suc zero))) h = ap (λ (x : Interrupt). x .bits) e
-interrupt-word s t i e (suc (suc (suc (suc j)))) h = absurd (omega arith)
+interrupt-word s t i e zero l h = absurd (omega arith)
+interrupt-word s t i e (suc zero) l h = ap (λ (x : Interrupt). x .server) e
+interrupt-word s t i e (suc (suc zero)) l h = ap (λ (x : Interrupt). x .priority) e
+interrupt-word s t i e (suc (suc (suc zero))) l h = ap (λ (x : Interrupt). x .bits) e
+interrupt-word s t i e (suc (suc (suc (suc j)))) l h = absurd (omega arith)
 
 entry-word : (f g : Tables) (p : PeNumber) (h : ℕ) → entry f p h ≡ entry g p h → (j : ℕ) → j < recordWords
     → at (f .entries) (p .0 * entryWords + (h * recordWords + j)) ≡ at (g .entries) (p .0 * entryWords + (h * recordWords + j))
@@ -90,7 +91,7 @@ module _ {G : PeNumber → Bool} {a b : Bridge} where
     interrupts-length = ap (λ (x : Lengths). x .interrupts) (v .public .all-lengths);
     state-word = state-word (v .written);
     interrupt-pe = v .public .interrupt-pe;
-    interrupt-word = λ i h g j l. interrupt-word (a .live) (b .live) i (v .written .interrupts i h g) j l;
+    interrupt-word = λ i h g j l u. interrupt-word (a .live) (b .live) i (v .written .interrupts i h g) j l u;
   }
 
   memory-agrees : View G a b → Held G (a .tables) (a .memory) (b .memory)

@@ -1,20 +1,22 @@
 -- The premises of demand 3 are met by bridges that differ in all that the group does not see, so the claim is not empty.
---     closed, view        `bridge x` and `bridge y` meet the premises, whatever x and y are
+--     closed, view        `bridge w` and `bridge v` meet the premises, whatever the words w and v are, if memory is as long
 --     reads-some          the group's walks do read words, by two levels
 --     reads-low           they read nothing beyond the group's two tables
---     outside-is          all private words of PEs 0 and 3 and the memory beyond the group's tables are x; own-stops: so are the upper bits of
---                         the group's stop words. Where x is not y, each of them differs
---     list-answers, other-answers     what each request of the two lists is answered: others freeze, are released and are refused
---     group-answers       what the group is answered: not only refusals; group-left: what is left to it
+--     outsideWords        the private words of PEs 0 and 3 and the memory beyond the group's tables; outside-is: in `bridge w` they are those of w;
+--                         ownStops, own-stops: the group's stop words, whose upper bits are those of w
+--     all-differ          each of all these words differs between the two bridges
+--     list-answers, other-answers     what each request of the two lists is answered: one DMA of PE 0 passes to different addresses, by page tables that
+--                         differ; its MSI is presented; others freeze, with peers, are released and are refused
+--     group-answers       what the group is answered: not only refusals; group-left: what is left to it; outside-left: to PEs 0 and 3
 --     witness             THE CLAIM at these two bridges and lists
 -- Assumes nothing.
 use mathlib.Core.Path.{_≡_, refl, sym, _∙_}
-use mathlib.Core.Bool.{true, false, cond}
+use mathlib.Core.Bool.{Bool, true, false, cond, not, _&&_}
 use mathlib.Core.List.{List, [], _∷_, _++_, map, List·Memᴰ, List·Memᴰ·head, List·Memᴰ·tail, List·Memᴰ·not-nil}
-use Prim.Native.Nat.{ℕ, zero, suc, _+_, _*_, _<_}
+use Prim.Native.Nat.{ℕ, zero, suc, _+_, _-_, _*_, _<_}
 use native.Mathlib.Omega.{arith}
 use lib.Dec.{leb, eqb}
-use lib.ListN.{length, replicate, List·getD-append, getD-replicate}
+use lib.ListN.{length, replicate, drop, List·getD-append, getD-replicate}
 use lib.Seq.{getD-set-other}
 use borrow.Author.Tests.{leb-true, eqb-true, eqb-false}
 use Rattle.kinds.specs.Tests.{by-cases, clash, and-right}
@@ -25,19 +27,21 @@ use Rattle.kinds.specs.declared.answer.Reason.the-variants.{BadRequest, Unknown
 use Rattle.kinds.specs.declared.number.ByteAddress.{ByteAddress}
 use Rattle.kinds.specs.declared.number.PageNumber.{PageNumber}
 use Rattle.kinds.specs.declared.record.TranslationEntry.{TranslationEntry}
-use Rattle.profile.specs.Entry.{classOf, half, entry, pageOf, tableGood, walks}
+use Rattle.profile.specs.Tables.{entryWords, interruptWords, stateWords}
+use Rattle.profile.specs.Freeze.{stopWord}
+use Rattle.profile.specs.Entry.{classOf, half, offset, entry, pageOf, tableGood, paged, walks}
 use Rattle.profile.specs.Walk.{place, leads, walkFrom, readsBy, reads}
 use Rattle.profile.specs.WalkLaws.{walk-cases}
 use Rattle.profile.specs.Msi.{interrupt}
 use Rattle.profile.specs.Agree.{interruptPe, Closed, Reads}
 use Rattle.isolation.specs.Machine.{replies}
-use Rattle.isolation.specs.Bridges.{group, tables, live, upper, lower, memory, bridge, list, other, opened-bridges}
+use Rattle.isolation.specs.Bridges.{Private, group, pe, row, places, tableWords, tables, live, upper, lower, memory, bridge, words, first, second, list, other, opened-bridges}
 use Rattle.isolation.specs.Isolation.{machine, own, answers, left, isolation}
 use Rattle.isolation.specs.View.{Bridge, Public, Written, View}
 
 -- ---- the group
 
-member : {P : Type 0} (p : ℕ) → group (record { 0 = p }) ≡ true → (p ≡ 1 → P) → (p ≡ 2 → P) → P
+member : {P : Type 0} (p : ℕ) → group (pe p) ≡ true → (p ≡ 1 → P) → (p ≡ 2 → P) → P
 unfolding group
 member zero u f g = clash u refl
 member (suc zero) u f g = f refl
@@ -45,7 +49,7 @@ member (suc (suc zero)) u f g = g refl
 member (suc (suc (suc p))) u f g =
     let n = suc (suc (suc p)) in absurd (let z = leb-true n 2 (and-right (leb 1 n) (leb n 2) u) in omega arith)
 
-outside : {P : Type 0} (p : ℕ) → p < 4 → group (record { 0 = p }) ≡ false → (p ≡ 0 → P) → (p ≡ 3 → P) → P
+outside : {P : Type 0} (p : ℕ) → p < 4 → group (pe p) ≡ false → (p ≡ 0 → P) → (p ≡ 3 → P) → P
 unfolding group
 outside zero h u f g = f refl
 outside (suc zero) h u f g = clash refl u
@@ -53,10 +57,10 @@ outside (suc (suc zero)) h u f g = clash refl u
 outside (suc (suc (suc zero))) h u f g = g refl
 outside (suc (suc (suc (suc p)))) h u f g = absurd (omega arith)
 
-pub closed : (x : ℕ) → Closed group (tables x)
+pub closed : (w : Private) → Closed group (tables w)
 unfolding tables
-closed x = record {
-  unlisted = λ p k h o u.
+closed w = record {
+  unlisted = λ p k h b o u.
       outside (p .0) h o
       (λ e. member (k .0) u (λ i. rw (e, i)) (λ i. rw (e, i)))
       (λ e. member (k .0) u (λ i. rw (e, i)) (λ i. rw (e, i)));
@@ -64,40 +68,40 @@ closed x = record {
 
 -- ---- what the group's walks read
 
-length-upper : length upper ≡ 512
+length-upper : length upper ≡ tableWords
 unfolding upper
 length-upper = refl
 
-length-tables : length (upper ++ lower) ≡ 1024
+length-tables : length (upper ++ lower) ≡ 2 * tableWords
 unfolding upper lower
 length-tables = refl
 
 -- a word of the two tables, and of the upper one
-table-word : (x k : ℕ) → k < 1024 → at (memory x) k ≡ at (upper ++ lower) k
+table-word : (w : Private) (k : ℕ) → k < 2 * tableWords → at (memory w) k ≡ at (upper ++ lower) k
 unfolding memory
-table-word x k h = List·getD-append (upper ++ lower) (replicate 4 x) 0 k (rw length-tables h)
+table-word w k h = List·getD-append (upper ++ lower) (w .memory) 0 k (rw length-tables h)
 
-upper-is : (k : ℕ) → k < 512 → at upper k ≡ cond (eqb k 2) 0x1001 0
+upper-is : (k : ℕ) → k < tableWords → at upper k ≡ cond (eqb k 2) 0x1001 0
 unfolding upper
 upper-is k h =
     by-cases (eqb k 2)
     (λ o. rw (eqb-true k 2 o))
-    (λ o. rw o (getD-set-other (replicate 512 0) 2 k 0x1001 0 (eqb-false k 2 o) ∙ getD-replicate 512 k 0 0 h))
+    (λ o. rw o (getD-set-other (replicate tableWords 0) 2 k 0x1001 0 (eqb-false k 2 o) ∙ getD-replicate tableWords k 0 0 h))
 
-upper-word : (x k : ℕ) → k < 512 → at (memory x) k ≡ cond (eqb k 2) 0x1001 0
-upper-word x k h = table-word x k (omega arith) ∙ List·getD-append upper lower 0 k (rw length-upper h) ∙ upper-is k h
+upper-word : (w : Private) (k : ℕ) → k < tableWords → at (memory w) k ≡ cond (eqb k 2) 0x1001 0
+upper-word w k h = table-word w k (omega arith) ∙ List·getD-append upper lower 0 k (rw length-upper h) ∙ upper-is k h
 
 -- PE 2 reads words of its two tables
-walk-low : (x : ℕ) (q : PageNumber) (k : ℕ) → List·Memᴰ k (walkFrom (memory x) 2 9 (record { 0 = 0 }) q .reads) → k < 1024
-walk-low x q k h =
-    walk-cases (memory x) 1 9 (record { 0 = 0 }) q k h
+walk-low : (w : Private) (q : PageNumber) (k : ℕ) → List·Memᴰ k (walkFrom (memory w) 2 9 (record { 0 = 0 }) q .reads) → k < 2 * tableWords
+walk-low w q k h =
+    walk-cases (memory w) 1 9 (record { 0 = 0 }) q k h
     (λ e. omega arith)
     (λ o z. let j = place 1 9 (record { 0 = 0 }) q in
-    let w = upper-word x j (omega arith) in
+    let u = upper-word w j (omega arith) in
     by-cases (eqb j 2)
-    (λ t. let e : at (memory x) j ≡ 0x1001 = rw t at w in
-    walk-cases (memory x) 0 9 (record { 0 = 0x1000 }) q k (rw e at z) (λ i. omega arith) (λ b y. clash b refl))
-    (λ t. let e : at (memory x) j ≡ 0 = rw t at w in
+    (λ t. let e : at (memory w) j ≡ 0x1001 = rw t at u in
+    walk-cases (memory w) 0 9 (record { 0 = 0x1000 }) q k (rw e at z) (λ i. omega arith) (λ b y. clash b refl))
+    (λ t. let e : at (memory w) j ≡ 0 = rw t at u in
     let c : leads 9 0 ≡ true = rw e at o in clash c (unfold leads in refl)))
 
 -- the entries of the group: none, PE 1's bypass and PE 2's page table
@@ -107,94 +111,96 @@ none = record { base = 0; levels = 0; table = 0; page = 0 }
 abbrev bypassed : TranslationEntry
 bypassed = record { base = 1; levels = 2; table = 1; page = 0 }
 
-abbrev paged : TranslationEntry
-paged = record { base = 0; levels = 2; table = 1; page = 1 }
+abbrev tabled : TranslationEntry
+tabled = record { base = 0; levels = 2; table = 1; page = 1 }
 
-unwalked-reads : (e : TranslationEntry) (m : List ℕ) (a : ByteAddress) (k : ℕ) → walks e a ≡ false → List·Memᴰ k (readsBy e m a) → k < 1024
+unwalked-reads : (e : TranslationEntry) (m : List ℕ) (o : ByteAddress) (k : ℕ) → walks e o ≡ false → List·Memᴰ k (readsBy e m o) → k < 2 * tableWords
 unfolding readsBy
-unwalked-reads e m a k o h = absurd (List·Memᴰ·not-nil (rw o at h))
+unwalked-reads e m o k t h = absurd (List·Memᴰ·not-nil (rw t at h))
 
-paged-reads : (x : ℕ) (a : ByteAddress) (k : ℕ) → List·Memᴰ k (readsBy paged (memory x) a) → k < 1024
+tabled-reads : (w : Private) (o : ByteAddress) (k : ℕ) → List·Memᴰ k (readsBy tabled (memory w) o) → k < 2 * tableWords
 unfolding readsBy
-paged-reads x a k h = by-cases (walks paged a) (λ o. walk-low x (pageOf paged a) k (rw o at h)) (λ o. absurd (List·Memᴰ·not-nil (rw o at h)))
+tabled-reads w o k h = by-cases (walks tabled o) (λ t. walk-low w (pageOf tabled o) k (rw t at h)) (λ t. absurd (List·Memᴰ·not-nil (rw t at h)))
 
-entry-reads : (x p h : ℕ) (a : ByteAddress) (k : ℕ) → group (record { 0 = p }) ≡ true → h < 2
-    → List·Memᴰ k (readsBy (entry (tables x) (record { 0 = p }) h) (memory x) a) → k < 1024
-unfolding tables walks tableGood
-entry-reads x p zero a k u b h =
-    member p u (λ e. unwalked-reads bypassed (memory x) a k refl (rw e at h)) (λ e. paged-reads x a k (rw e at h))
-entry-reads x p (suc zero) a k u b h =
-    member p u (λ e. unwalked-reads none (memory x) a k refl (rw e at h)) (λ e. unwalked-reads none (memory x) a k refl (rw e at h))
-entry-reads x p (suc (suc n)) a k u b h = absurd (omega arith)
+entry-reads : (w : Private) (p h : ℕ) (o : ByteAddress) (k : ℕ) → group (pe p) ≡ true → h < 2
+    → List·Memᴰ k (readsBy (entry (tables w) (pe p) h) (memory w) o) → k < 2 * tableWords
+unfolding places tables walks paged tableGood
+entry-reads w p zero o k u b h =
+    member p u (λ e. unwalked-reads bypassed (memory w) o k refl (rw e at h)) (λ e. tabled-reads w o k (rw e at h))
+entry-reads w p (suc zero) o k u b h =
+    member p u (λ e. unwalked-reads none (memory w) o k refl (rw e at h)) (λ e. unwalked-reads none (memory w) o k refl (rw e at h))
+entry-reads w p (suc (suc n)) o k u b h = absurd (omega arith)
 
-reads-low : (x k : ℕ) → Reads group (tables x) (memory x) k → k < 1024
-reads-low x k r = entry-reads x (r .pe .0) (half (r .address)) (r .address) k (r .member) (omega arith) (r .word)
+reads-low : (w : Private) (k : ℕ) → Reads group (tables w) (memory w) k → k < 2 * tableWords
+reads-low w k r = entry-reads w (r .pe .0) (half (r .address)) (offset (r .address)) k (r .member) (omega arith) (r .word)
 
 -- ---- the premises
 
-interrupt-pes : (x y i : ℕ) → i < 4 → interrupt (live x) i .pe ≡ interrupt (live y) i .pe
-unfolding live
-interrupt-pes x y zero h = refl
-interrupt-pes x y (suc zero) h = refl
-interrupt-pes x y (suc (suc zero)) h = refl
-interrupt-pes x y (suc (suc (suc zero))) h = refl
-interrupt-pes x y (suc (suc (suc (suc i)))) h = absurd (omega arith)
+module _ (w v : Private) (e : length (w .memory) ≡ length (v .memory)) where
+  interrupt-pes : (i : ℕ) → i < 4 → interrupt (live w) i .pe ≡ interrupt (live v) i .pe
+  unfolding places live
+  interrupt-pes zero h = refl
+  interrupt-pes (suc zero) h = refl
+  interrupt-pes (suc (suc zero)) h = refl
+  interrupt-pes (suc (suc (suc zero))) h = refl
+  interrupt-pes (suc (suc (suc (suc i)))) h = absurd (omega arith)
 
-interrupt-records : (x y i : ℕ) → i < 4 → group (interruptPe (live x) i) ≡ true → interrupt (live x) i ≡ interrupt (live y) i
-unfolding live group
-interrupt-records x y zero h u = clash u refl
-interrupt-records x y (suc zero) h u = refl
-interrupt-records x y (suc (suc zero)) h u = refl
-interrupt-records x y (suc (suc (suc zero))) h u = clash u refl
-interrupt-records x y (suc (suc (suc (suc i)))) h u = absurd (omega arith)
+  interrupt-records : (i : ℕ) → i < 4 → group (interruptPe (live w) i) ≡ true → interrupt (live w) i ≡ interrupt (live v) i
+  unfolding places live group
+  interrupt-records zero h u = clash u refl
+  interrupt-records (suc zero) h u = refl
+  interrupt-records (suc (suc zero)) h u = refl
+  interrupt-records (suc (suc (suc zero))) h u = clash u refl
+  interrupt-records (suc (suc (suc (suc i)))) h u = absurd (omega arith)
 
-group-entries : (x y p h : ℕ) → group (record { 0 = p }) ≡ true → h < 2 → entry (tables x) (record { 0 = p }) h ≡ entry (tables y) (record { 0 = p }) h
-unfolding tables
-group-entries x y p zero u b = member p u (λ e. rw e) (λ e. rw e)
-group-entries x y p (suc zero) u b = member p u (λ e. rw e) (λ e. rw e)
-group-entries x y p (suc (suc n)) u b = absurd (omega arith)
+  group-entries : (p h : ℕ) → group (pe p) ≡ true → h < 2 → entry (tables w) (pe p) h ≡ entry (tables v) (pe p) h
+  unfolding places tables
+  group-entries p zero u b = member p u (λ e. rw e) (λ e. rw e)
+  group-entries p (suc zero) u b = member p u (λ e. rw e) (λ e. rw e)
+  group-entries p (suc (suc n)) u b = absurd (omega arith)
 
-group-words : (x y : ℕ) → Written group 4 (live x) (live y)
-unfolding live
-group-words x y = record {
-  stop-bits = λ p u. member (p .0) u (λ e. rw e (omega arith)) (λ e. rw e (omega arith));
-  reason = λ p u. member (p .0) u (λ e. rw e) (λ e. rw e);
-  value = λ p u. member (p .0) u (λ e. rw e) (λ e. rw e);
-  interrupts = interrupt-records x y;
-}
+  group-words : Written group 4 (live w) (live v)
+  unfolding places live
+  group-words = record {
+    stop-bits = λ p u. member (p .0) u (λ e. rw e (omega arith)) (λ e. rw e (omega arith));
+    reason = λ p u. member (p .0) u (λ e. rw e) (λ e. rw e);
+    value = λ p u. member (p .0) u (λ e. rw e) (λ e. rw e);
+    interrupts = interrupt-records;
+  }
 
-public : (x y : ℕ) → Public (bridge x) (bridge y)
-unfolding tables live memory upper lower
-public x y = record {
-  sizes = refl;
-  all-lengths = refl;
-  requesters = refl;
-  peers = refl;
-  windows = refl;
-  segments = refl;
-  interrupt-pe = interrupt-pes x y;
-}
+  public : Public (bridge w) (bridge v)
+  unfolding places tables live memory upper lower
+  public = record {
+    sizes = refl;
+    all-lengths = rw e;
+    requesters = refl;
+    peers = refl;
+    windows = refl;
+    segments = refl;
+    interrupt-pe = interrupt-pes;
+  }
 
-pub view : (x y : ℕ) → View group (bridge x) (bridge y)
-unfolding tables
-view x y = record {
-  public = public x y;
-  written = group-words x y;
-  entries = λ p u h b. group-entries x y (p .0) h u b;
-  table-words = λ k r. table-word x k (reads-low x k r) ∙ sym (table-word y k (reads-low x k r));
-}
+  pub view : View group (bridge w) (bridge v)
+  unfolding tables
+  view = record {
+    public = public;
+    written = group-words;
+    entries = λ p u h b. group-entries (p .0) h u b;
+    table-words = λ k r. table-word w k (reads-low w k r) ∙ sym (table-word v k (reads-low w k r));
+  }
 
 -- ---- the group's walks do read words
 
-two-levels : (x : ℕ) → reads (tables x) (memory x) (record { 0 = 2 }) (record { 0 = 0x403010 }) ≡ 2 ∷ 515 ∷ []
+two-levels : (x : ℕ) → reads (tables (words x)) (memory (words x)) (pe 2) (record { 0 = 0x403010 }) ≡ 2 ∷ (tableWords + 3) ∷ []
 unfolding opened-bridges
 two-levels x = refl
 
-pub reads-some : (x : ℕ) → Reads group (tables x) (memory x) 515
+pub reads-some : (x : ℕ) → Reads group (tables (words x)) (memory (words x)) (tableWords + 3)
 unfolding group classOf
 reads-some x = record {
-  pe = record { 0 = 2 };
+  pe = pe 2;
   member = refl;
+  below = unfold tables in omega arith;
   address = record { 0 = 0x403010 };
   dma = refl;
   word = rw (two-levels x) (List·Memᴰ·tail (List·Memᴰ·head refl));
@@ -202,59 +208,83 @@ reads-some x = record {
 
 -- ---- what is outside: all private words of PEs 0 and 3, and the memory beyond the group's tables
 
-unfoldable pub places : (start count : ℕ) → List ℕ
-places n zero = []
-places n (suc k) = n ∷ places (n + 1) k
+unfoldable pub outsideWords : Private → List ℕ
+outsideWords w =
+    map (w .entries) (places 0 entryWords ++ places (3 * entryWords) entryWords)
+    ++ map (w .state) (places 0 stateWords ++ places (3 * stateWords) stateWords)
+    ++ map (w .interrupts) (places 1 (interruptWords - 1) ++ places (3 * interruptWords + 1) (interruptWords - 1))
+    ++ w .memory
 
-unfoldable pub outsideWords : Bridge → List ℕ
-outsideWords a =
-    map (at (a .tables .entries)) (places 0 8 ++ places 24 8)
-    ++ map (at (a .live .state)) (places 0 3 ++ places 9 3)
-    ++ map (at (a .live .interrupts)) (places 1 3 ++ places 13 3)
-    ++ map (at (a .memory)) (places 1024 4)
+-- the words of a bridge, in the same form
+abbrev pub wordsOf : Bridge → Private
+wordsOf a = record {
+  entries = at (a .tables .entries);
+  state = at (a .live .state);
+  interrupts = at (a .live .interrupts);
+  memory = drop (2 * tableWords) (a .memory);
+}
 
-pub outside-is : (x : ℕ) → outsideWords (bridge x) ≡ replicate 32 x
-unfolding outsideWords places tables live memory upper lower
-outside-is x = refl
+pub outside-is : (w : Private) → outsideWords (wordsOf (bridge w)) ≡ outsideWords w
+unfolding opened-bridges outsideWords
+outside-is w = refl
 
-pub own-stops : (x : ℕ) → map (at (live x .state)) (3 ∷ 6 ∷ []) ≡ replicate 2 (x * 4)
-unfolding live
-own-stops x = refl
+unfoldable pub ownStops : Bridge → List ℕ
+ownStops a = map (at (a .live .state)) (stopWord (pe 1) ∷ stopWord (pe 2) ∷ [])
+
+pub own-stops : (w : Private) → ownStops (bridge w) ≡ map (λ k. w .state k * 4) (stopWord (pe 1) ∷ stopWord (pe 2) ∷ [])
+unfolding places live ownStops
+own-stops w = refl
+
+-- two lists of one length that differ at every place
+unfoldable pub apart : (l k : List ℕ) → Bool
+apart [] [] = true
+apart [] (y ∷ k) = false
+apart (x ∷ l) [] = false
+apart (x ∷ l) (y ∷ k) = not (eqb x y) && apart l k
+
+pub all-differ : apart (ownStops first ++ outsideWords (wordsOf first)) (ownStops second ++ outsideWords (wordsOf second)) ≡ true
+unfolding opened-bridges ownStops outsideWords apart
+all-differ = refl
 
 -- ---- two lists
 
-same-own : own group (bridge 1) list ≡ own group (bridge 2) other
+same-own : own group first list ≡ own group second other
 unfolding opened-bridges
 same-own = refl
 
 unfoldable pub pass : (address pe words : ℕ) → Answer
-pass a p n = Pass (record { 0 = a }) (record { 0 = p }) n
+pass a p n = Pass (record { 0 = a }) (pe p) n
 
--- every answer of both lists: others freeze, are released and are refused
-list-answers : replies (machine group (tables 1) (memory 1)) (live 1) list ≡
-    Done ∷ pass 0x9010 2 2 ∷ Refuse DmaStopped 0 ∷ Done ∷ Refuse BadEntry 0 ∷ pass 0x1000000 1 0 ∷ Msi 1 5 6 ∷ Refuse UnknownRequester 0
-    ∷ Refuse BadRequest 0 ∷ Refuse TableWord 1 ∷ Done ∷ Ones 0xFFFFFFFF ∷ Done ∷ Done ∷ Refuse NoWindow 0 ∷ []
+list-answers : replies (machine group (first .tables) (first .memory)) (first .live) list ≡
+    Done ∷ pass 0x9010 2 2 ∷ Refuse DmaStopped 0 ∷ Done ∷ pass 0x1110ABC 0 1 ∷ pass 0x1000000 1 0 ∷ Msi 0 1 1 ∷ Msi 1 5 6 ∷ Refuse UnknownRequester 0
+    ∷ Refuse BadRequest 0 ∷ Refuse BadEntry 0 ∷ Refuse TableWord 1 ∷ Ones 0xFFFFFFFF ∷ Done ∷ Done ∷ Refuse NoWindow 0 ∷ []
 unfolding opened-bridges pass
 list-answers = refl
 
-other-answers : replies (machine group (tables 2) (memory 2)) (live 2) other ≡
-    pass 0x9010 2 2 ∷ pass 0x1000000 1 0 ∷ Refuse DmaStopped 0 ∷ Msi 1 5 6 ∷ Refuse BadRequest 0 ∷ Done ∷ Refuse BadRequest 0 ∷ Refuse TableWord 1
-    ∷ Ones 0xFFFFFFFF ∷ Done ∷ Done ∷ Done ∷ Done ∷ []
+other-answers : replies (machine group (second .tables) (second .memory)) (second .live) other ≡
+    pass 0x9010 2 2 ∷ pass 0x1000000 1 0 ∷ Refuse DmaStopped 0 ∷ Done ∷ pass 0x2223ABC 0 2 ∷ Msi 1 5 6 ∷ Refuse BadRequest 0 ∷ Done
+    ∷ Refuse BadRequest 0 ∷ Refuse TableWord 1 ∷ Ones 0xFFFFFFFF ∷ Done ∷ Done ∷ Done ∷ Done ∷ []
 unfolding opened-bridges pass
 other-answers = refl
 
 -- what the group is answered, in both
-group-answers : answers group (bridge 1) list ≡
+group-answers : answers group first list ≡
     pass 0x9010 2 2 ∷ pass 0x1000000 1 0 ∷ Msi 1 5 6 ∷ Refuse BadRequest 0 ∷ Refuse TableWord 1 ∷ Ones 0xFFFFFFFF ∷ Done ∷ Done ∷ []
 unfolding opened-bridges pass
 group-answers = refl
 
 -- and what is left to it: the words of PEs 1 and 2 in the state, and their interrupts
-group-left : map (at (left (bridge 1) list .state)) (places 3 6) ++ map (at (left (bridge 1) list .interrupts)) (places 4 8) ≡
-    4 ∷ 0 ∷ 0 ∷ 6 ∷ 8 ∷ 0x800000 ∷ 1 ∷ 5 ∷ 6 ∷ 2 ∷ 2 ∷ 7 ∷ 8 ∷ 0 ∷ []
-unfolding opened-bridges places
+group-left : map (at (left first list .state)) (places (stopWord (pe 1)) (2 * stateWords))
+    ++ map (at (left first list .interrupts)) (places interruptWords (2 * interruptWords)) ≡
+    row 4 0 0 ++ row 6 8 0x800000 ++ (1 ∷ 5 ∷ 6 ∷ 2 ∷ 2 ∷ 7 ∷ 8 ∷ 0 ∷ [])
+unfolding opened-bridges
 group-left = refl
 
-pub witness : (answers group (bridge 1) list ≡ answers group (bridge 2) other) × Written group 4 (left (bridge 1) list) (left (bridge 2) other)
+-- and to PEs 0 and 3: PE 3 has sent an error message, and PE 0 was frozen as its peer
+outside-left : map (at (left first list .state)) (places 0 stateWords ++ places (3 * stateWords) stateWords) ≡ row 3 13 3 ++ row 3 12 3
+unfolding opened-bridges
+outside-left = refl
+
+pub witness : (answers group first list ≡ answers group second other) × Written group 4 (left first list) (left second other)
 unfolding tables
-witness = isolation .isolated group (bridge 1) (bridge 2) (closed 1) (view 1 2) list other same-own
+witness = isolation .isolated group first second (closed (words 1)) (view (words 1) (words 2) (unfold words in refl)) list other same-own

@@ -1,5 +1,6 @@
 pub mod Answer
 pub mod Number
+pub mod Checked
 pub mod NumberLaws
 pub mod Outcome
 pub mod Powers

@@ -1,10 +1,13 @@
 -- The outcomes that recur.
 --     passed p a n        a pass of PE p to address a with n table words read: nothing is changed
+--     kept a              answer a: nothing is changed
 --     refused r           a refusal with no table word read: nothing is changed
---     failed r a n        a refusal that freezes: the record's value is the address of the request
+--     failed r a n        a refusal that freezes, with the peers: the record's value is the address of the request
 --     done e              done, with effect e
 -- Assumes nothing.
+use mathlib.Core.Bool.{true}
 use Prim.Native.Nat.{ℕ}
+use Rattle.kinds.specs.declared.answer.Answer.{Answer}
 use Rattle.kinds.specs.declared.answer.Answer.the-variants.{Pass, Refuse, Done}
 use Rattle.kinds.specs.declared.answer.Reason.{Reason}
 use Rattle.kinds.specs.declared.number.ByteAddress.{ByteAddress}
@@ -13,14 +16,17 @@ use Rattle.kinds.specs.declared.outcome.Effect.{Effect}
 use Rattle.kinds.specs.declared.outcome.Effect.the-variants.{Keep, Freeze}
 use Rattle.kinds.specs.declared.outcome.Outcome.{Outcome}
 
+abbrev pub kept : Answer → Outcome
+kept a = record { answer = a; effect = Keep }
+
 abbrev pub passed : PeNumber → ByteAddress → (words : ℕ) → Outcome
-passed p a n = record { answer = Pass a p n; effect = Keep }
+passed p a n = kept (Pass a p n)
 
 abbrev pub refused : Reason → Outcome
-refused r = record { answer = Refuse r 0; effect = Keep }
+refused r = kept (Refuse r 0)
 
 abbrev pub failed : Reason → ByteAddress → (words : ℕ) → Outcome
-failed r a n = record { answer = Refuse r n; effect = Freeze r (a .0) }
+failed r a n = record { answer = Refuse r n; effect = Freeze (record { reason = r; value = a .0 }) true }
 
 abbrev pub done : Effect → Outcome
 done e = record { answer = Done; effect = e }

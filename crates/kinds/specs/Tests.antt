@@ -3,11 +3,14 @@
 --     clash p q           a test is not both true and false
 --     and-left, and-right the parts of a conjunction that holds; and-both puts them together
 --     or-cases            the part of a disjunction that holds; or-left and or-right put one in
+--     all l               every test of a list holds; all-true: so test k does; all-append: of two lists together
 --     tests               the rule set that turns a fact about numbers into the value of its test
 -- Assumes nothing.
 use mathlib.Core.Path.{_≡_, refl, sym}
 use mathlib.Core.Bool.{Bool, true, false, _&&_, _||_}
-use Prim.Native.Nat.{ℕ}
+use mathlib.Core.List.{List, [], _∷_, _++_}
+use Prim.Native.Nat.{ℕ, zero, suc}
+use lib.ListN.{getD}
 use native.Mathlib.Omega.{arith}
 use borrow.Author.Tests.{lt-ltb, le-ltb, lt-leb, le-leb, eq-eqb, ne-eqb}
 
@@ -42,3 +45,18 @@ or-left false b e = clash refl (sym e)
 pub or-right : (a b : Bool) → b ≡ true → (a || b) ≡ true
 or-right true b e = refl
 or-right false b e = e
+
+abbrev pub all : List Bool → Bool
+all [] = true
+all (b ∷ l) = b && all l
+
+-- a test that the list does not have is true
+pub all-true : (l : List Bool) (k : ℕ) → all l ≡ true → getD l k true ≡ true
+all-true [] k e = refl
+all-true (b ∷ l) zero e = and-left b (all l) e
+all-true (b ∷ l) (suc k) e = all-true l k (and-right b (all l) e)
+
+pub all-append : (l k : List Bool) → all (l ++ k) ≡ (all l && all k)
+all-append [] k = refl
+all-append (true ∷ l) k = all-append l k
+all-append (false ∷ l) k = refl

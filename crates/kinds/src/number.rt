@@ -9,6 +9,9 @@ pub struct PageNumber(pub u64);
 // The number of a partitionable endpoint.
 pub struct PeNumber(pub u16);
 
+// No PE has this number.
+pub const NO_PE: u64 = 0x1_0000;
+
 // The four page sizes: 4 KiB, 64 KiB, 16 MiB and 256 MiB.
 pub enum PageSize {
     K4,

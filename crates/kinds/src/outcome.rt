@@ -1,15 +1,23 @@
 // What a request comes to: its answer, and what is done to the tables. An effect names no PE: it is done at the PE that owns the request.
 use crate::answer::Answer;
 use crate::answer::Reason;
-use crate::number::ByteAddress;
 use crate::number::PeNumber;
+use crate::record::TranslationEntry;
+use crate::request::DmaRequest;
 use crate::request::Part;
+
+// What a freeze writes into an empty error record.
+pub struct ErrorRecord {
+    pub reason: Reason,
+    pub value: u64,
+}
 
 pub enum Effect {
     Keep,
+    // With the PE's peers, or alone.
     Freeze {
-        reason: Reason,
-        value: u64,
+        error: ErrorRecord,
+        peers: bool,
     },
     Release {
         part: Part,
@@ -25,4 +33,14 @@ pub enum Effect {
 pub struct Outcome {
     pub answer: Answer,
     pub effect: Effect,
+}
+
+// What is known of a request before memory is read: its outcome, whose effect is done at `pe`, or that the page table of `entry` of `pe` is walked for
+// `dma`. What is not known then is empty; a request of nobody has no effect, and PE 0 stands for it.
+pub struct Check {
+    pub walks: bool,
+    pub pe: PeNumber,
+    pub outcome: Outcome,
+    pub entry: TranslationEntry,
+    pub dma: DmaRequest,
 }

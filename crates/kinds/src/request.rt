@@ -22,34 +22,23 @@ pub enum Part {
     Record,
 }
 
+// A DMA, or an MSI by its address.
+pub struct DmaRequest {
+    pub requester: u64,
+    pub direction: Direction,
+    pub address: ByteAddress,
+    pub length: u64,
+    pub data: u32,
+}
+
 pub enum Request {
-    Dma {
-        requester: u64,
-        direction: Direction,
-        address: ByteAddress,
-        length: u64,
-        data: u32,
-    },
-    Load {
-        address: ByteAddress,
-        width: u64,
-    },
-    Store {
-        address: ByteAddress,
-        width: u64,
-    },
-    Error {
-        requester: u64,
-    },
-    Clear {
-        pe: u64,
-        part: Part,
-    },
-    End {
-        interrupt: u64,
-    },
-    Priority {
-        interrupt: u64,
-        priority: u64,
-    },
+    Dma(DmaRequest),
+    Load { address: ByteAddress, width: u64 },
+    Store { address: ByteAddress, width: u64 },
+    Error { requester: u64 },
+    Clear { pe: u64, part: Part },
+    End { interrupt: u64 },
+    Priority { interrupt: u64, priority: u64 },
+    // Words that name no request.
+    Unnamed,
 }

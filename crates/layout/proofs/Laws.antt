@@ -8,8 +8,7 @@ use lib.Dec.{eqb, ltb}
 use Rattle.kinds.specs.Tests.{tests, by-cases, clash}
 use Rattle.kinds.specs.declared.request.Direction.{Direction}
 use Rattle.kinds.specs.declared.request.Direction.the-variants.{Read, Write}
-use Rattle.kinds.specs.declared.request.Request.the-variants.{Dma}
-use Rattle.layout.specs.declared.Decoded.the-variants.{Named, Unnamed}
+use Rattle.kinds.specs.declared.request.Request.the-variants.{Dma, Unnamed}
 use Rattle.layout.specs.Layout.{decodedDma}
 
 pub no-direction : (r d a n v : ℕ) → 1 < d → Unnamed ≡ decodedDma r d a n v
@@ -24,7 +23,8 @@ other-one zero p z = clash refl z
 other-one (suc zero) p z = refl
 other-one (suc (suc d)) p z = absurd (omega arith)
 
-pub dma-named : (r d a n v : ℕ) {x : Direction} → v < 2 ^ 32 → d ≤ 1 → x ≡ cond (eqb d 0) Read Write → Named (Dma r x (record { 0 = a }) n v) ≡ decodedDma r d a n v
+pub dma-named : (r d a n v : ℕ) {x : Direction} → v < 2 ^ 32 → d ≤ 1 → x ≡ cond (eqb d 0) Read Write
+    → Dma (record { requester = r; direction = x; address = record { 0 = a }; length = n; «data» = v }) ≡ decodedDma r d a n v
 unfolding decodedDma
 dma-named r d a n v o p e =
     let w : ltb v (2 ^ 32) ≡ true = search tests in

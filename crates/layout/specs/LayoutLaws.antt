@@ -2,27 +2,25 @@
 --     request-in, written-in      a request and an answer whose words are all there
 --     reasonFrom n                the reason with number n; answerFrom x: the answer with numbers x
 --     numbered-injective          two answers with the same words are the same
---     words-written, words-kept   the words of an answer once it is written, and once a later one is
---     at-written                  the words of an answer that was written; written-keeps: all other words; length-written: their number
+--     words-at                    the words of answer k, which stand after v, the words of k answers; written-after: the words once it is written
+--     writtenFrom x k l           the list of words x with the answers of list l written as its answers k, k + 1 and so on
+--     all-written                 answers that are written from the first one on are the first words, one answer after the other
 -- Assumes nothing.
 use mathlib.Core.Path.{_≡_, refl, sym, ap, _∙_}
-use mathlib.Core.Bool.{false}
-use mathlib.Core.List.{List, [], _∷_}
-use Prim.Native.Nat.{ℕ, zero, suc, _+_, _-_, _*_, _/_, _<_, _≤_}
-use native.Mathlib.Nat.{add-zero, not-suc-le-zero, le-of-suc-le-suc}
+use mathlib.Core.List.{List, [], _∷_, _++_, append-assoc}
+use Prim.Native.Nat.{ℕ, suc, _+_, _*_, _/_, _≤_}
+use native.Mathlib.Nat.{suc-mul}
 use native.Mathlib.Omega.{arith}
-use lib.Dec.{eqb}
-use lib.ListN.{length, set, length-set}
-use lib.Seq.{sets, length-sets, getD-set-same, getD-set-other}
-use borrow.Author.Tests.{lt-ltb, eqb-false, ne-eqb}
-use Rattle.kinds.specs.Answer.{reasonNumber, numbered}
+use lib.ListN.{length, drop, length-append, length-drop}
+use lib.Seq.{sets-eq, take-append-seam, drop-append-seam, drop-append-add, drop-drop}
+use borrow.Author.Tests.{lt-ltb}
+use Rattle.kinds.specs.Answer.{reasonNumber}
 use Rattle.kinds.specs.Words.{at}
 use Rattle.kinds.specs.declared.answer.Answer.{Answer}
 use Rattle.kinds.specs.declared.answer.Answer.the-variants.{Pass, Msi, Held, Ones, Drop, Refuse, Done}
-use Rattle.kinds.specs.declared.answer.Numbers.{Numbers}
 use Rattle.kinds.specs.declared.answer.Reason.{Reason}
 use Rattle.kinds.specs.declared.answer.Reason.the-variants.{TableLength, BadRequest, UnknownRequester, DmaStopped, AddressClass, BadEntry, OutsideWindow, TableWord, MsiRefused, NoWindow, MmioStopped, ErrorMessage, FrozenAsPeer, BadFirmware, OutsideMemory}
-use Rattle.layout.specs.Layout.{decodedAt, requestIn, numberList, wordsAt, written, writtenIn, requestWords, answerWords}
+use Rattle.layout.specs.Layout.{requestWords, answerWords, decodedAt, requestIn, answerList, answersOf, over, wordsAt, written, writtenIn}
 
 pub request-in : (l : List ℕ) (k : ℕ) → k * requestWords + requestWords ≤ length l → requestIn l k ≡ decodedAt l k
 unfolding requestIn
@@ -65,7 +63,7 @@ answerFrom w =
     ∷ Refuse (reasonFrom (at w 1)) (at w 3) ∷ [])
     (at w 0) Done
 
-answer-back : (a : Answer) → answerFrom (numberList (numbered a)) ≡ a
+answer-back : (a : Answer) → answerFrom (answerList a) ≡ a
 unfolding answerFrom
 answer-back (Pass a p n) = refl
 answer-back (Msi n s p) = refl
@@ -75,66 +73,33 @@ answer-back Drop = refl
 answer-back (Refuse r n) = rw (reason-back r)
 answer-back Done = refl
 
-pub numbered-injective : (a b : Answer) → numberList (numbered a) ≡ numberList (numbered b) → a ≡ b
+pub numbered-injective : (a b : Answer) → answerList a ≡ answerList b → a ≡ b
 numbered-injective a b e = sym (answer-back a) ∙ ap answerFrom e ∙ answer-back b
 
--- ---- words written one after the other
+-- ---- answers one after the other
 
--- a word outside the place written stays
-sets-out : (l : List ℕ) (i : ℕ) (w : List ℕ) (j : ℕ) → (i ≤ j → i + length w ≤ j) → at (sets l i w) j ≡ at l j
-sets-out l i [] j h = refl
-sets-out l i (x ∷ w) j h =
-    sets-out (set l i x) (suc i) w j (λ g. let z = h (omega arith) in omega arith)
-    ∙ getD-set-other l i j x 0 (λ e. let z = h (omega arith) in omega arith)
+module _ (v x : List ℕ) (k : ℕ) (a : Answer) (e : length v ≡ k * answerWords) where
+  -- the words of answer k, which stand after v
+  pub words-at : wordsAt (v ++ (answerList a ++ x)) k ≡ answerList a
+  words-at = rw (← e, drop-append-seam)
 
-sets-in : (l : List ℕ) (i : ℕ) (w : List ℕ) (d : ℕ) → d < length w → i + length w ≤ length l → at (sets l i w) (i + d) ≡ at w d
-sets-in l i [] d h g = absurd (not-suc-le-zero h)
-sets-in l i (x ∷ w) zero h g =
-    rw add-zero (sets-out (set l i x) (suc i) w i (λ q. omega arith) ∙ getD-set-same l i x 0 (omega arith))
-sets-in l i (x ∷ w) (suc d) h g =
-    let e : i + suc d ≡ suc i + d = omega arith in
-    rw e (sets-in (set l i x) (suc i) w d (le-of-suc-le-suc h) (rw length-set (omega arith)))
+  pub written-after : answerWords ≤ length x → written (v ++ x) k a ≡ v ++ (answerList a ++ drop answerWords x)
+  unfolding written
+  written-after h = rw (← e) (sets-eq (answerList a) (v ++ x) (length v) (rw length-append (omega arith)) ∙ rw (take-append-seam, drop-append-add, append-assoc))
 
-pub at-written : (l : List ℕ) (k : ℕ) (a : Answer) (d : ℕ) → d < answerWords → k * answerWords + answerWords ≤ length l
-    → at (written l k a) (k * answerWords + d) ≡ at (numberList (numbered a)) d
-unfolding written
-at-written l k a d h g = sets-in l (k * answerWords) (numberList (numbered a)) d h g
+abbrev pub writtenFrom : List ℕ → ℕ → List Answer → List ℕ
+writtenFrom x k [] = x
+writtenFrom x k (a ∷ l) = writtenFrom (written x k a) (suc k) l
 
-pub written-keeps : (l : List ℕ) (k : ℕ) (a : Answer) (j : ℕ) → (eqb (j / answerWords) k ≡ false) → at (written l k a) j ≡ at l j
-unfolding written
-written-keeps l k a j o =
-    let z = eqb-false (j / answerWords) k o in
-    sets-out l (k * answerWords) (numberList (numbered a)) j (λ g. omega arith)
+written-from : (v x : List ℕ) (k : ℕ) → length v ≡ k * answerWords → (l : List Answer) → length l * answerWords ≤ length x
+    → writtenFrom (v ++ x) k l ≡ v ++ over (answersOf l) x
+written-from v x k e [] h = refl
+written-from v x k e (a ∷ l) h =
+    let next : length (v ++ answerList a) ≡ suc k * answerWords = rw (length-append, e) (omega (arith, suc-mul k answerWords)) in
+    let fits : length l * answerWords ≤ length (drop answerWords x) = rw length-drop (omega (arith, suc-mul (length l) answerWords)) in
+    let both : answerWords + length (answersOf l) ≡ length (answersOf (a ∷ l)) = omega arith in
+    rw (written-after v x k a e (omega (arith, suc-mul (length l) answerWords)), ← append-assoc v (answerList a) (drop answerWords x))
+    (written-from (v ++ answerList a) (drop answerWords x) (suc k) next l fits ∙ simp (append-assoc, drop-drop, both))
 
-pub length-written : (l : List ℕ) (k : ℕ) (a : Answer) → length (written l k a) ≡ length l
-unfolding written
-length-written l k a = length-sets l (k * answerWords) (numberList (numbered a))
-
--- the words of answer j, once it is written
-pub words-written : (x : List ℕ) (j : ℕ) (a : Answer) → j * answerWords + answerWords ≤ length x → wordsAt (written x j a) j ≡ numberList (numbered a)
-words-written x j a h = rw (
-  rw add-zero at (at-written x j a 0 (omega arith) h),
-  at-written x j a 1 (omega arith) h,
-  at-written x j a 2 (omega arith) h,
-  at-written x j a 3 (omega arith) h,
-  at-written x j a 4 (omega arith) h,
-  at-written x j a 5 (omega arith) h,
-  at-written x j a 6 (omega arith) h,
-  at-written x j a 7 (omega arith) h,
-)
-
--- and once a later one is
-word-kept : (x : List ℕ) (n : ℕ) (a : Answer) (j d : ℕ) → j < n → d < answerWords → at (written x n a) (j * answerWords + d) ≡ at x (j * answerWords + d)
-word-kept x n a j d h g = written-keeps x n a (j * answerWords + d) (ne-eqb ((j * answerWords + d) / answerWords) n (omega arith))
-
-pub words-kept : (x : List ℕ) (n : ℕ) (a : Answer) (j : ℕ) → j < n → wordsAt (written x n a) j ≡ wordsAt x j
-words-kept x n a j h = rw (
-  rw add-zero at (word-kept x n a j 0 h (omega arith)),
-  word-kept x n a j 1 h (omega arith),
-  word-kept x n a j 2 h (omega arith),
-  word-kept x n a j 3 h (omega arith),
-  word-kept x n a j 4 h (omega arith),
-  word-kept x n a j 5 h (omega arith),
-  word-kept x n a j 6 h (omega arith),
-  word-kept x n a j 7 h (omega arith),
-)
+pub all-written : (x : List ℕ) (l : List Answer) → length l * answerWords ≤ length x → writtenFrom x 0 l ≡ over (answersOf l) x
+all-written x l h = written-from [] x 0 refl l h

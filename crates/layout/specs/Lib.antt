@@ -1,2 +1,4 @@
+pub mod EncodedLaws
 pub mod Layout
+pub mod LayoutCases
 pub mod LayoutLaws

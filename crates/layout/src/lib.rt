@@ -1,6 +1,7 @@
 // Requests and answers as words: the layout that `bridge::run` reads and writes.
 use kinds::number::ByteAddress;
 use kinds::request::Direction;
+use kinds::request::DmaRequest;
 use kinds::request::Part;
 use kinds::request::Request;
 ghost use mathlib.Core.Path.{_≡_};
@@ -15,12 +16,6 @@ pub const REQUEST_WORDS: usize = 8;
 // The words of one answer in the list of answers.
 pub const ANSWER_WORDS: usize = 8;
 
-// What the words of a request name.
-pub enum Decoded {
-    Named(Request),
-    Unnamed,
-}
-
 // The direction that a word below 2 names.
 fn direction_of(word: u64) -> Direction
     ensures { λ r. ⌜ r ≡ cond (eqb word 0) Read Write ⌝ }
@@ -31,16 +26,16 @@ fn direction_of(word: u64) -> Direction
     Direction::Write
 }
 
-fn decode_dma(requester: u64, direction: u64, address: u64, length: u64, data: u64) -> Decoded
+fn decode_dma(requester: u64, direction: u64, address: u64, length: u64, data: u64) -> Request
     ensures { λ r. ⌜ r ≡ decodedDma requester direction address length «data» ⌝ }
 {
     if 4294967296 <= data {
-        return Decoded::Unnamed;
+        return Request::Unnamed;
     }
     if 1 < direction {
-        return Decoded::Unnamed;
+        return Request::Unnamed;
     }
-    Decoded::Named(Request::Dma {
+    Request::Dma(DmaRequest {
         requester,
         direction: direction_of(direction),
         address: ByteAddress(address),
@@ -49,63 +44,63 @@ fn decode_dma(requester: u64, direction: u64, address: u64, length: u64, data: u
     })
 }
 
-fn decode_clear(pe: u64, part: u64) -> Decoded
+fn decode_clear(pe: u64, part: u64) -> Request
     ensures { λ r. ⌜ r ≡ decodedClear pe part ⌝ }
 {
     if part == 0 {
-        return Decoded::Named(Request::Clear {
+        return Request::Clear {
             pe,
             part: Part::Mmio,
-        });
+        };
     }
     if part == 1 {
-        return Decoded::Named(Request::Clear {
+        return Request::Clear {
             pe,
             part: Part::Dma,
-        });
+        };
     }
     if part == 2 {
-        return Decoded::Named(Request::Clear {
+        return Request::Clear {
             pe,
             part: Part::Record,
-        });
+        };
     }
-    Decoded::Unnamed
+    Request::Unnamed
 }
 
 // The request that six words name: its kind, and then its numbers.
-pub fn decode(kind: u64, a: u64, b: u64, c: u64, d: u64, e: u64) -> Decoded
+pub fn decode(kind: u64, a: u64, b: u64, c: u64, d: u64, e: u64) -> Request
     ensures { λ r. ⌜ r ≡ decoded kind a b c d e ⌝ }
 {
     if kind == 0 {
         return decode_dma(a, b, c, d, e);
     }
     if kind == 1 {
-        return Decoded::Named(Request::Load {
+        return Request::Load {
             address: ByteAddress(a),
             width: b,
-        });
+        };
     }
     if kind == 2 {
-        return Decoded::Named(Request::Store {
+        return Request::Store {
             address: ByteAddress(a),
             width: b,
-        });
+        };
     }
     if kind == 3 {
-        return Decoded::Named(Request::Error { requester: a });
+        return Request::Error { requester: a };
     }
     if kind == 4 {
         return decode_clear(a, b);
     }
     if kind == 5 {
-        return Decoded::Named(Request::End { interrupt: a });
+        return Request::End { interrupt: a };
     }
     if kind == 6 {
-        return Decoded::Named(Request::Priority {
+        return Request::Priority {
             interrupt: a,
             priority: b,
-        });
+        };
     }
-    Decoded::Unnamed
+    Request::Unnamed
 }

@@ -82,7 +82,8 @@ sized n m r w =
     cond (leb 1 n && leb n mostPes && leb m mostInterrupts && leb 1 r && leb r mostRequesters && leb w mostMemory) (Size n m r w) Bad
 
 unfoldable pub dma : (requester : ℕ) → Direction → (address length x : ℕ) → Line
-dma q d a n x = cond (ltb x (2 ^ 32)) (Request (Dma q d (record { 0 = a }) n x)) Bad
+dma q d a n x =
+    cond (ltb x (2 ^ 32)) (Request (Dma (record { requester = q; direction = d; address = record { 0 = a }; length = n; «data» = x }))) Bad
 
 abbrev pub sizeLine : Form
 sizeLine = field numberOf (λ n. field numberOf (λ m. numbers (λ r w. sized n m r w)))

@@ -1,13 +1,14 @@
 -- Lines and what they say: every form, every limit and one past it, and lines of no form.
 --     sizes, stores, requests, others     the tables
 --     right               each line of the tables says what stands beside it
---     longest-good        a good line of 73 bytes
+--     longest-good        a good line of 73 bytes; dmaRequest: a DMA in bare numbers
 -- Assumes nothing.
 use mathlib.Core.Path.{_≡_, refl}
 use mathlib.Core.List.{List, [], _∷_, map}
 use Prim.Native.Nat.{ℕ}
 use Prim.Native.String.{String}
 use lib.ListN.{length}
+use Rattle.kinds.specs.declared.request.Direction.{Direction}
 use Rattle.kinds.specs.declared.request.Direction.the-variants.{Read, Write}
 use Rattle.kinds.specs.declared.request.Part.the-variants.{Mmio, Dma as DmaPart, Record}
 use Rattle.kinds.specs.declared.request.Request.the-variants.{Dma, Load, Store, Error, Clear, End, Priority}
@@ -52,11 +53,14 @@ stores =
     ∷ ("set\tstate\t0\t0\t0", Bad)
     ∷ []
 
+abbrev pub dmaRequest : (requester : ℕ) → Direction → (address length x : ℕ) → Line
+dmaRequest r d a n x = Request (Dma (record { requester = r; direction = d; address = record { 0 = a }; length = n; «data» = x }))
+
 -- requests, those that no table has and those that are badly formed among them
 unfoldable pub requests : List (String × Line)
 requests =
-    ("dma\t5\tr\t3abc\t4\t0", Request (Dma 5 Read (record { 0 = 0x3abc }) 4 0))
-    ∷ ("dma\t10005\tw\tffffffffffffffff\t0\tffffffff", Request (Dma 0x10005 Write (record { 0 = 0xffff_ffff_ffff_ffff }) 0 0xffff_ffff))
+    ("dma\t5\tr\t3abc\t4\t0", dmaRequest 5 Read 0x3abc 4 0)
+    ∷ ("dma\t10005\tw\tffffffffffffffff\t0\tffffffff", dmaRequest 0x10005 Write 0xffff_ffff_ffff_ffff 0 0xffff_ffff)
     ∷ ("dma\t5\tw\t0\t4\t100000000", Bad)
     ∷ ("dma\t5\tr\t0\t4\t100000000", Bad)
     ∷ ("dma\t5\trw\t0\t4\t0", Bad)
@@ -116,6 +120,6 @@ right = (refl, refl, refl, refl)
 abbrev pub longestLine : List ℕ
 longestLine = bytes "dma\t0000000000000005\tr\t0000000000003abc\t0000000000000004\t0000000000000000"
 
-pub longest-good : (length longestLine ≡ 73) × (lineOf longestLine ≡ Request (Dma 5 Read (record { 0 = 0x3abc }) 4 0))
+pub longest-good : (length longestLine ≡ 73) × (lineOf longestLine ≡ dmaRequest 5 Read 0x3abc 4 0)
 unfolding lineOf field only final numbers dma fieldsOf numberFrom numberOf is find
 longest-good = (refl, refl)

@@ -11,8 +11,9 @@ use lib.ListN.{length}
 use borrow.Author.Tests.{eq-eqb, ne-eqb}
 use Rattle.kinds.specs.Words.{at}
 use Rattle.kinds.specs.declared.record.TranslationEntry.{TranslationEntry}
-use Rattle.marks.specs.Marks.{anyMark, markAt, inTable, misses, tableMisses, wordMisses, levelsMiss, paged, entryMisses}
-use Rattle.marks.specs.MarksLaws.{paged-ranges}
+use Rattle.profile.specs.Entry.{indexBits}
+use Rattle.marks.specs.Marks.{anyMark, markAt, inTable, misses, tableMisses, wordMisses, levelsMiss, hasPages, entryMisses}
+use Rattle.marks.specs.MarksLaws.{code-most, levels-some, levels-most}
 
 pub mark-is : (t : List ℕ) (k j : ℕ) {x : ℕ} → x ≡ at t j → eqb (x / 2 ^ k % 2) 1 ≡ markAt t k j
 unfolding markAt
@@ -44,13 +45,13 @@ module _ (m t : List ℕ) (n k j : ℕ) {a : Bool} (asked : a ≡ markAt t (k + 
   unfolding wordMisses
   word-unmarked o = rw (← asked, o)
 
-module _ (m t : List ℕ) (e : TranslationEntry) {a : Bool} (asked : a ≡ paged e) where
-  pub entry-root : {b : Bool} → a ≡ true → b ≡ tableMisses t (length m) (e .table + 8) (e .levels - 1) (e .base / 8) → b ≡ true → true ≡ entryMisses m t e
+module _ (m t : List ℕ) (e : TranslationEntry) {a : Bool} (asked : a ≡ hasPages e) where
+  pub entry-root : {b : Bool} → a ≡ true → b ≡ tableMisses t (length m) (indexBits e) (e .levels - 1) (e .base / 8) → b ≡ true → true ≡ entryMisses m t e
   unfolding entryMisses
   entry-root o h p = rw (← asked, o, ← h, p)
 
-  pub entry-levels : {b c : Bool} → a ≡ true → b ≡ tableMisses t (length m) (e .table + 8) (e .levels - 1) (e .base / 8) → b ≡ false
-      → c ≡ levelsMiss m t (e .table + 8) (e .levels - 1) → c ≡ entryMisses m t e
+  pub entry-levels : {b c : Bool} → a ≡ true → b ≡ tableMisses t (length m) (indexBits e) (e .levels - 1) (e .base / 8) → b ≡ false
+      → c ≡ levelsMiss m t (indexBits e) (e .levels - 1) → c ≡ entryMisses m t e
   unfolding entryMisses
   entry-levels o h p i = rw (← asked, o, ← h, p) i
 
@@ -58,22 +59,22 @@ module _ (m t : List ℕ) (e : TranslationEntry) {a : Bool} (asked : a ≡ paged
   unfolding entryMisses
   entry-none o = rw (← asked, o)
 
--- what `paged` says of the numbers of an entry
-module _ (e : TranslationEntry) {a : Bool} (asked : a ≡ paged e) (o : a ≡ true) where
-  pub paged-bits : e .table + 8 < 64
-  paged-bits = let h = paged-ranges e (rw (← asked) o) in omega (arith, h .0)
+-- the ranges of an entry that has pages
+module _ (e : TranslationEntry) {a : Bool} (asked : a ≡ hasPages e) (o : a ≡ true) where
+  pub bits-most : indexBits e < 64
+  bits-most = omega (arith, code-most e (rw (← asked) o))
 
-  pub paged-some : 1 ≤ e .levels
-  paged-some = paged-ranges e (rw (← asked) o) .1 .0
+  pub bits-fit : Fits w64 (indexBits e)
+  bits-fit = omega (arith, bits-most)
 
-  pub paged-few : e .levels - 1 ≤ 5
-  paged-few = let h = paged-ranges e (rw (← asked) o) in omega (arith, h .1 .1)
+  pub some-level : 1 ≤ e .levels
+  some-level = levels-some e (rw (← asked) o)
 
-  pub paged-fits : Fits w64 (e .table + 8)
-  paged-fits = omega (arith, paged-bits)
+  pub few-below : e .levels - 1 ≤ 5
+  few-below = omega (arith, levels-most e (rw (← asked) o))
 
-  pub paged-under : e .levels - 1 < 64
-  paged-under = omega (arith, paged-few)
+  pub below-fits : e .levels - 1 < 64
+  below-fits = omega (arith, few-below)
 
 module _ (t : List ℕ) (i : ℕ) {w : ℕ} (read : w ≡ at t i) where
   pub mark-none : w ≡ 0 → false ≡ anyMark t i

@@ -5,18 +5,19 @@
 --     misses t n k f j    word j is in that table and has no mark of k levels below; tableMisses t c n k f: some word below c is so
 --     wordMisses m t n k j    word j of memory m is marked with k + 1 levels below, and leads to a table that has a word with no mark
 --     levelMisses m t n k     some word is so; levelsMiss m t n l: with some k below l
---     paged e             the codes and levels of entry e are within their ranges, and it is no bypass
+--     hasPages e          the codes and levels of entry e are within their ranges, and it is no bypass; pageTests e: its tests
 --     entryMisses m t e   a word that a walk by entry e can read has no mark
 -- A walk also ends at a lower table that is misaligned; here it goes on, so more is marked than a walk can read.
 -- Assumes nothing.
 use mathlib.Core.Bool.{Bool, true, false, cond, not}
-use mathlib.Core.List.{List}
+use mathlib.Core.List.{List, [], _∷_}
 use Prim.Native.Nat.{ℕ, _+_, _-_, _*_, _/_, _%_, _^_}
-use lib.Dec.{leb, ltb, eqb}
+use lib.Dec.{leb, eqb}
 use lib.ListN.{length}
+use Rattle.kinds.specs.Tests.{all}
 use Rattle.kinds.specs.Words.{at}
 use Rattle.kinds.specs.declared.record.TranslationEntry.{TranslationEntry}
-use Rattle.profile.specs.Entry.{indexBits}
+use Rattle.profile.specs.Entry.{indexBits, tableGood, bypass}
 use Rattle.members.specs.Any.{any}
 
 unfoldable pub markAt : List ℕ → (below j : ℕ) → Bool
@@ -41,16 +42,15 @@ levelMisses m t n k = any (length m) (wordMisses m t n k)
 abbrev pub levelsMiss : (memory marks : List ℕ) → (bits levels : ℕ) → Bool
 levelsMiss m t n l = any l (levelMisses m t n)
 
-unfoldable pub paged : TranslationEntry → Bool
-paged e =
-    cond (ltb (e .table) 1) false
-    (cond (ltb 31 (e .table)) false
-    (cond (eqb (e .page) 0) false
-    (cond (ltb (e .levels) 1) false (leb (e .levels) 5))))
+abbrev pub pageTests : TranslationEntry → List Bool
+pageTests e = tableGood e ∷ not (bypass e) ∷ leb 1 (e .levels) ∷ leb (e .levels) 5 ∷ []
+
+unfoldable pub hasPages : TranslationEntry → Bool
+hasPages e = all (pageTests e)
 
 unfoldable pub entryMisses : (memory marks : List ℕ) → TranslationEntry → Bool
 entryMisses m t e =
-    cond (paged e)
+    cond (hasPages e)
     (cond (tableMisses t (length m) (indexBits e) (e .levels - 1) (e .base / 8)) true (levelsMiss m t (indexBits e) (e .levels - 1)))
     false
 

@@ -1,9 +1,9 @@
 -- Marks that miss nothing are on every memory word that a walk reads.
---     paged-ranges        what `paged` says of the numbers of an entry
---     walks-paged         an entry that is walked for some address is paged
+--     code-most, levels-some, levels-most     the ranges of an entry that has pages
+--     walks-pages         an entry that is walked for some offset has pages
 --     table-marked        every word of a table that misses nothing is marked
 --     walk-marked         every word that a walk reads has a mark, where its first table and all levels miss nothing
---     entry-marked        the same of the walk by an entry that misses nothing, for any address
+--     entry-marked        the same of the walk by an entry that misses nothing, for any offset
 -- Assumes nothing.
 use mathlib.Core.Path.{_≡_, refl}
 use mathlib.Core.Bool.{true, false, not, _&&_, _||_}
@@ -15,55 +15,42 @@ use native.Mathlib.Omega.{arith}
 use lib.Dec.{leb, ltb, eqb}
 use lib.ListN.{length}
 use lib.Pow.{pow-pos}
-use borrow.Author.Tests.{ltb-true, ltb-false, leb-true, eqb-true, le-ltb, le-leb}
-use Rattle.kinds.specs.Tests.{by-cases, clash, and-left, and-right}
+use borrow.Author.Tests.{ltb-true, leb-true, eqb-true, le-leb}
+use Rattle.kinds.specs.Tests.{by-cases, clash, and-left, and-right, all-true}
 use Rattle.kinds.specs.Words.{at}
 use Rattle.kinds.specs.declared.number.ByteAddress.{ByteAddress}
 use Rattle.kinds.specs.declared.number.PageNumber.{PageNumber}
 use Rattle.kinds.specs.declared.record.TranslationEntry.{TranslationEntry}
-use Rattle.profile.specs.Entry.{pageOf, indexBits, span, aligned, tableGood, bypass, pagesGood, walks}
+use Rattle.profile.specs.Entry.{pageOf, indexBits, tableGood, bypass, pagesGood, paged, walks}
 use Rattle.profile.specs.Walk.{place, nextBase, leads, walkFrom, walk, readsBy}
 use Rattle.profile.specs.WalkLaws.{walk-suc, walk-cases}
 use Rattle.members.specs.AnyLaws.{any-none}
-use Rattle.members.specs.MemberLaws.{not-true, not-false}
-use Rattle.marks.specs.Marks.{anyMark, markAt, inTable, misses, tableMisses, wordMisses, levelMisses, levelsMiss, paged, entryMisses}
+use Rattle.members.specs.MemberLaws.{not-false}
+use Rattle.marks.specs.Marks.{anyMark, markAt, inTable, misses, tableMisses, wordMisses, levelMisses, levelsMiss, pageTests, hasPages, entryMisses}
 
-pub paged-ranges : (e : TranslationEntry) → paged e ≡ true → (e .table ≤ 31) × ((1 ≤ e .levels) × (e .levels ≤ 5))
-unfolding paged
-paged-ranges e h =
-    by-cases (ltb (e .table) 1) (λ o. clash (rw o at h) refl) (λ o.
-    by-cases (ltb 31 (e .table)) (λ p. clash (rw (o, p) at h) refl) (λ p.
-    by-cases (eqb (e .page) 0) (λ q. clash (rw (o, p, q) at h) refl) (λ q.
-    by-cases (ltb (e .levels) 1) (λ r. clash (rw (o, p, q, r) at h) refl)
-    (λ r. (ltb-false 31 (e .table) p, (ltb-false (e .levels) 1 r, leb-true (e .levels) 5 (rw (o, p, q, r) at h)))))))
+module _ (e : TranslationEntry) (h : hasPages e ≡ true) where
+  pub code-most : e .table ≤ 31
+  unfolding hasPages tableGood
+  code-most = leb-true (e .table) 31 (and-right (leb 1 (e .table)) _ (all-true (pageTests e) 0 h))
 
-module _ (e : TranslationEntry) (a : ByteAddress) (h : walks e a ≡ true) where
-  good : (tableGood e && not (bypass e) && pagesGood e) ≡ true
-  unfolding walks
-  good = and-left (tableGood e && not (bypass e) && pagesGood e) _ h
+  pub levels-some : 1 ≤ e .levels
+  unfolding hasPages
+  levels-some = leb-true 1 (e .levels) (all-true (pageTests e) 2 h)
 
-  codes-good : tableGood e ≡ true
-  codes-good = and-left (tableGood e) (not (bypass e)) (and-left (tableGood e && not (bypass e)) (pagesGood e) good)
+  pub levels-most : e .levels ≤ 5
+  unfolding hasPages
+  levels-most = leb-true (e .levels) 5 (all-true (pageTests e) 3 h)
 
-  no-bypass : bypass e ≡ false
-  no-bypass = not-true (bypass e) (and-right (tableGood e) (not (bypass e)) (and-left (tableGood e && not (bypass e)) (pagesGood e) good))
-
-  levels-good : (1 ≤ e .levels) × (e .levels ≤ 5)
-  unfolding pagesGood
-  levels-good =
-      let known = eqb (e .page) 1 || eqb (e .page) 5 || eqb (e .page) 13 || eqb (e .page) 17 in
-      let base = aligned (indexBits e) (record { 0 = e .base }) in
-      let all = and-right (tableGood e && not (bypass e)) (pagesGood e) good in
-      let most = and-left (known && leb 1 (e .levels) && leb (e .levels) 5) base (and-left (known && leb 1 (e .levels) && leb (e .levels) 5 && base) (leb (span e) 59) all) in
-      let least = and-left (known && leb 1 (e .levels)) (leb (e .levels) 5) most in
-      (leb-true 1 (e .levels) (and-right known (leb 1 (e .levels)) least), leb-true (e .levels) 5 (and-right (known && leb 1 (e .levels)) (leb (e .levels) 5) most))
-
-  pub walks-paged : paged e ≡ true
-  unfolding paged tableGood
-  walks-paged =
-      let least = leb-true 1 (e .table) (and-left (leb 1 (e .table)) (leb (e .table) 31) codes-good) in
-      let most = leb-true (e .table) 31 (and-right (leb 1 (e .table)) (leb (e .table) 31) codes-good) in
-      rw (le-ltb _ _ least, le-ltb _ _ most, no-bypass, le-ltb _ _ (levels-good .0), le-leb _ _ (levels-good .1))
+pub walks-pages : (e : TranslationEntry) (o : ByteAddress) → walks e o ≡ true → hasPages e ≡ true
+unfolding hasPages walks paged pagesGood
+walks-pages e o h =
+    let good = and-left (paged e) _ h in
+    let codes = and-left (tableGood e && not (bypass e)) (pagesGood e) good in
+    let known = eqb (e .page) 1 || eqb (e .page) 5 || eqb (e .page) 13 || eqb (e .page) 17 in
+    let levels = and-right known (leb 1 (e .levels) && _) (and-right (tableGood e && not (bypass e)) (pagesGood e) good) in
+    let least : leb 1 (e .levels) ≡ true = and-left _ _ levels in
+    let most : leb (e .levels) 5 ≡ true = and-left _ _ (and-right (leb 1 (e .levels)) (leb (e .levels) 5 && _) levels) in
+    rw (and-left (tableGood e) (not (bypass e)) codes, and-right (tableGood e) (not (bypass e)) codes, least, most)
 
 -- ---- one table, and one level
 
@@ -117,21 +104,21 @@ module _ (m t : List ℕ) (n : ℕ) where
 -- ---- entries
 
 module _ (m t : List ℕ) (e : TranslationEntry) (none : entryMisses m t e ≡ false) where
-  root-none : paged e ≡ true → tableMisses t (length m) (indexBits e) (e .levels - 1) (e .base / 8) ≡ false
+  root-none : hasPages e ≡ true → tableMisses t (length m) (indexBits e) (e .levels - 1) (e .base / 8) ≡ false
   unfolding entryMisses
   root-none o =
       by-cases (tableMisses t (length m) (indexBits e) (e .levels - 1) (e .base / 8)) (λ u. clash refl (rw (o, u) at none)) (λ u. u)
 
-  levels-none : paged e ≡ true → levelsMiss m t (indexBits e) (e .levels - 1) ≡ false
+  levels-none : hasPages e ≡ true → levelsMiss m t (indexBits e) (e .levels - 1) ≡ false
   unfolding entryMisses
   levels-none o = rw (o, root-none o) at none
 
-  pub entry-marked : (a : ByteAddress) (i : ℕ) → List·Memᴰ i (readsBy e m a) → anyMark t i ≡ true
+  pub entry-marked : (o : ByteAddress) (i : ℕ) → List·Memᴰ i (readsBy e m o) → anyMark t i ≡ true
   unfolding readsBy
-  entry-marked a i h =
-      by-cases (walks e a)
-      (λ o. let p = walks-paged e a o in
-      let some : suc (e .levels - 1) ≡ e .levels = omega (arith, paged-ranges e p .1 .0) in
-      walk-marked m t (indexBits e) (e .levels - 1) (record { 0 = e .base }) (pageOf e a)
-      (any-none (e .levels - 1) (levelMisses m t (indexBits e)) (levels-none p)) (root-none p) i (rw some (rw o at h)))
-      (λ o. absurd (List·Memᴰ·not-nil (rw o at h)))
+  entry-marked o i h =
+      by-cases (walks e o)
+      (λ u. let p = walks-pages e o u in
+      let some : suc (e .levels - 1) ≡ e .levels = omega (arith, levels-some e p) in
+      walk-marked m t (indexBits e) (e .levels - 1) (record { 0 = e .base }) (pageOf e o)
+      (any-none (e .levels - 1) (levelMisses m t (indexBits e)) (levels-none p)) (root-none p) i (rw some (rw u at h)))
+      (λ u. absurd (List·Memᴰ·not-nil (rw u at h)))

@@ -6,7 +6,7 @@ use profile::limits::MOST_TABLE_CODE;
 use words;
 ghost use mathlib.Core.Path.{_≡_};
 ghost use Prim.Native.Nat.{_<_, _≤_};
-ghost use Rattle.marks.specs.Marks.{markAt, inTable, misses, tableMisses, wordMisses, levelMisses, levelsMiss, paged, entryMisses, anyMark};
+ghost use Rattle.marks.specs.Marks.{markAt, inTable, misses, tableMisses, wordMisses, levelMisses, levelsMiss, hasPages, entryMisses, anyMark};
 
 fn is_marked(marks: &[u64], below: u64, j: usize) -> bool
     requires { ⌜ below < 64 ⌝ }
@@ -102,8 +102,8 @@ fn levels_miss(memory: &[u64], marks: &[u64], bits: u64, levels: u64) -> bool
 }
 
 // The entry can have a page table: its codes and levels are within their ranges.
-fn is_paged(entry: TranslationEntry) -> bool
-    ensures { λ r. ⌜ r ≡ paged entry ⌝ }
+fn has_pages(entry: TranslationEntry) -> bool
+    ensures { λ r. ⌜ r ≡ hasPages entry ⌝ }
 {
     if entry.table < 1 {
         return false;
@@ -124,7 +124,7 @@ fn is_paged(entry: TranslationEntry) -> bool
 pub fn entry_misses(memory: &[u64], marks: &[u64], entry: TranslationEntry) -> bool
     ensures { λ r. ⌜ r ≡ entryMisses (now (memory .entry)) (now (marks .entry)) entry ⌝ }
 {
-    if is_paged(entry) {
+    if has_pages(entry) {
         let bits = entry.table + CODE_BITS;
         let below = entry.levels - 1;
         if table_misses(marks, memory.len(), bits, below, entry.base / 8) {

@@ -1,12 +1,19 @@
-// The four forms of an outcome: passed, refused, failed and done.
+// The four forms of an outcome: passed, refused, failed and done; and the three of a check: kept, ready and walk.
 use kinds::answer::Answer;
 use kinds::answer::Reason;
 use kinds::number::ByteAddress;
 use kinds::number::PeNumber;
+use kinds::outcome::Check;
 use kinds::outcome::Effect;
+use kinds::outcome::ErrorRecord;
 use kinds::outcome::Outcome;
+use kinds::record::TranslationEntry;
+use kinds::request::Direction;
+use kinds::request::DmaRequest;
 ghost use mathlib.Core.Path.{_≡_};
+ghost use Rattle.kinds.specs.Checked.{shown, Kept, Ready, Walk};
 ghost use Rattle.kinds.specs.Outcome as spec;
+ghost use Rattle.kinds.specs.declared.answer.Answer.the-variants.{Refuse};
 
 // A pass: nothing is changed.
 pub fn passed(pe: PeNumber, address: ByteAddress, words: u64) -> Outcome
@@ -28,14 +35,17 @@ pub fn refused(reason: Reason) -> Outcome
     }
 }
 
-// A refusal that freezes the PE.
+// A refusal that freezes the PE with its peers.
 pub fn failed(reason: Reason, address: ByteAddress, words: u64) -> Outcome
     ensures { λ r. ⌜ r ≡ spec.failed reason address words ⌝ }
 {
-    let value = address.0;
+    let error = ErrorRecord {
+        reason,
+        value: address.0,
+    };
     Outcome {
         answer: Answer::Refuse { reason, words },
-        effect: Effect::Freeze { reason, value },
+        effect: Effect::Freeze { error, peers: true },
     }
 }
 
@@ -47,4 +57,72 @@ pub fn done(effect: Effect) -> Outcome
         answer: Answer::Done,
         effect,
     }
+}
+
+// No entry, and no DMA.
+const NO_ENTRY: TranslationEntry = TranslationEntry {
+    base: 0,
+    levels: 0,
+    table: 0,
+    page: 0,
+};
+
+const NO_DMA: DmaRequest = DmaRequest {
+    requester: 0,
+    direction: Direction::Read,
+    address: ByteAddress(0),
+    length: 0,
+    data: 0,
+};
+
+// A request that is answered; nothing is done.
+pub fn kept(answer: Answer) -> Check
+    ensures { λ r. ⌜ r ≡ shown (Kept answer) ⌝ }
+{
+    Check {
+        walks: false,
+        pe: PeNumber(0),
+        outcome: Outcome {
+            answer,
+            effect: Effect::Keep,
+        },
+        entry: NO_ENTRY,
+        dma: NO_DMA,
+    }
+}
+
+// A request of a PE whose outcome is known.
+pub fn ready(pe: PeNumber, outcome: Outcome) -> Check
+    ensures { λ r. ⌜ r ≡ shown (Ready pe outcome) ⌝ }
+{
+    Check {
+        walks: false,
+        pe,
+        outcome,
+        entry: NO_ENTRY,
+        dma: NO_DMA,
+    }
+}
+
+// A DMA of a PE whose page table is walked.
+pub fn walk(pe: PeNumber, entry: TranslationEntry, dma: DmaRequest) -> Check
+    ensures { λ r. ⌜ r ≡ shown (Walk pe entry dma) ⌝ }
+{
+    Check {
+        walks: true,
+        pe,
+        outcome: Outcome {
+            answer: Answer::Done,
+            effect: Effect::Keep,
+        },
+        entry,
+        dma,
+    }
+}
+
+// A request that is refused with no table word read.
+pub fn refuse(reason: Reason) -> Check
+    ensures { λ r. ⌜ r ≡ shown (Kept (Refuse reason 0)) ⌝ }
+{
+    kept(Answer::Refuse { reason, words: 0 })
 }

@@ -1,10 +1,13 @@
--- What the functions of `owners` are proved from. Assumes nothing.
-use mathlib.Core.Path.{_≡_, refl, ap, _∙_}
+-- What the functions of `owners` are proved from.
+--     below-count, interrupt-named    a PE found by a number below the count of its table, and by that of an interrupt
+--     hit-found, hit-missed           the owner of a load or store; owner-case, hit-case: the owner of a request by its kind
+-- Assumes nothing.
+use mathlib.Core.Path.{_≡_, ap, _∙_}
 use mathlib.Core.Bool.{cond}
-use mathlib.Core.List.{List, []}
-use Prim.Native.Nat.{ℕ, _≤_, _<_}
+use mathlib.Core.List.{List}
+use Prim.Native.Nat.{ℕ, _<_}
 use lib.Dec.{ltb}
-use borrow.Author.Tests.{lt-ltb, le-ltb}
+use borrow.Author.Tests.{lt-ltb}
 use Rattle.kinds.specs.declared.answer.Reason.{Reason}
 use Rattle.kinds.specs.declared.answer.Reason.the-variants.{NoWindow, BadFirmware}
 use Rattle.kinds.specs.declared.lookup.Hit.{Hit}
@@ -15,53 +18,30 @@ use Rattle.kinds.specs.declared.number.ByteAddress.{ByteAddress}
 use Rattle.kinds.specs.declared.record.Interrupt.{Interrupt}
 use Rattle.kinds.specs.declared.record.Sizes.{Sizes}
 use Rattle.kinds.specs.declared.request.Request.{Request}
-use Rattle.kinds.specs.declared.request.Request.the-variants.{Load, Store}
 use Rattle.profile.specs.Msi.{interruptIn}
-use Rattle.profile.specs.Owner.{ofInterrupt, ofHit, owner}
+use Rattle.profile.specs.Owner.{ofInterrupt, ofHit, ownerIn}
 use Rattle.profile.specs.Tables.{named}
 use Rattle.profile.specs.Windows.{route}
-use Rattle.sizes.specs.Tables.{tables, live}
-use Rattle.owners.specs.Known.{known}
-use Rattle.owners.specs.KnownLaws.{hit-is}
 
--- a PE found by a number below the count of its table, and the refusal of a number that is not
-module _ (reason : Reason) (z : Sizes) (count n word : ℕ) {o : Owner} where
-  pub below-count : {found : ℕ} → n < count → found ≡ word → o ≡ known z (named reason z found)
-      → o ≡ known z (cond (ltb n count) (named reason z word) (Nobody reason))
-  below-count h e g = g ∙ rw (lt-ltb _ _ h, e)
+pub below-count : (x : Reason) (pes count n word : ℕ) {o : Owner} {found : ℕ} → n < count → found ≡ word → o ≡ named x pes found
+    → o ≡ cond (ltb n count) (named x pes word) (Nobody x)
+below-count x pes count n word h e g = rw (lt-ltb n count h, ← e) g
 
-  pub past-count : count ≤ n → o ≡ known z (Nobody reason) → o ≡ known z (cond (ltb n count) (named reason z word) (Nobody reason))
-  past-count h g = g ∙ rw (le-ltb _ _ h)
+pub interrupt-named : (pes count : ℕ) (l : List ℕ) (n : ℕ) {e : Interrupt} {o : Owner} → n < count → e ≡ interruptIn l n
+    → o ≡ named BadFirmware pes (e .pe) → o ≡ ofInterrupt pes count l n
+interrupt-named pes count l n h e g = below-count BadFirmware pes count n (interruptIn l n .pe) h (ap (λ (x : Interrupt). x .pe) e) g
 
--- the same of the PE word of an interrupt
-pub interrupt-known : (z : Sizes) (l : List ℕ) (n : ℕ) {e : Interrupt} {o : Owner} → n < z .interrupts → e ≡ interruptIn l n
-    → o ≡ known z (named BadFirmware z (e .pe)) → o ≡ known z (ofInterrupt (tables z [] [] [] [] []) (live [] l) n)
-interrupt-known z l n h e g = below-count BadFirmware z (z .interrupts) n (interruptIn l n .pe) h (ap (λ (x : Interrupt). x .pe) e) g
+module _ (pes : ℕ) {h : Hit} where
+  pub hit-found : {n : ℕ} {c : ByteAddress} {o : Owner} → h ≡ At n c → o ≡ named NoWindow pes n → o ≡ ofHit pes h
+  hit-found e g = rw e g
 
-module _ (z : Sizes) {h : Hit} {o : Owner} where
-  pub hit-found : {n : ℕ} {c : ByteAddress} → h ≡ At n c → o ≡ known z (named NoWindow z n) → o ≡ known z (ofHit (tables z [] [] [] [] []) h)
-  hit-found e g = g ∙ rw e
+  pub hit-missed : h ≡ Miss → Nobody NoWindow ≡ ofHit pes h
+  hit-missed e = rw e
 
-  pub hit-missed : h ≡ Miss → o ≡ known z (Nobody NoWindow) → o ≡ known z (ofHit (tables z [] [] [] [] []) h)
-  hit-missed e g = g ∙ rw e
+module _ (z : Sizes) (q w g l : List ℕ) {y x : Request} (i : y ≡ x) {o : Owner} where
+  pub owner-case : o ≡ ownerIn z q w g l x → o ≡ ownerIn z q w g l y
+  owner-case e = rw i e
 
--- ---- the owner of a request
-
-module _ (z : Sizes) (q w g l : List ℕ) {y : Request} {o : Owner} where
-  pub owner-case : {x : Request} → y ≡ x → o ≡ known z (owner (tables z q [] [] w g) (live [] l) x) → o ≡ known z (owner (tables z q [] [] w g) (live [] l) y)
-  owner-case i h = rw i h
-
--- of a load or store
-hit-owner : (z : Sizes) (q w g : List ℕ) (a : ByteAddress) {h : Hit} {o : Owner} → h ≡ route w g a → o ≡ known z (ofHit (tables z [] [] [] [] []) h)
-    → o ≡ known z (ofHit (tables z q [] [] w g) (route w g a))
-hit-owner z q w g a {h = h} k e = e ∙ ap (known z) (hit-is (tables z [] [] [] [] []) (tables z q [] [] w g) refl h ∙ ap (ofHit (tables z q [] [] w g)) k)
-
-module _ (z : Sizes) (q w g l : List ℕ) {y : Request} {o : Owner} {a : ByteAddress} {n : ℕ} {h : Hit} (k : h ≡ route w g a)
-    (e : o ≡ known z (ofHit (tables z [] [] [] [] []) h)) where
-  pub load-owner : y ≡ Load a n → o ≡ known z (owner (tables z q [] [] w g) (live [] l) y)
-  unfolding owner
-  load-owner i = rw i (hit-owner z q w g a k e)
-
-  pub store-owner : y ≡ Store a n → o ≡ known z (owner (tables z q [] [] w g) (live [] l) y)
-  unfolding owner
-  store-owner i = rw i (hit-owner z q w g a k e)
+  -- of a load or store
+  pub hit-case : (a : ByteAddress) {h : Hit} → h ≡ route w g a → o ≡ ofHit (z .pes) h → ofHit (z .pes) (route w g a) ≡ ownerIn z q w g l x → o ≡ ownerIn z q w g l y
+  hit-case a k e f = rw i (e ∙ ap (ofHit (z .pes)) k ∙ f)

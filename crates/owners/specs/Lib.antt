@@ -1,2 +1,2 @@
-pub mod Known
-pub mod KnownLaws
+pub mod ByOwner
+pub mod ByOwnerLaws

@@ -1,13 +1,13 @@
 -- The shape of a page table. Assumes nothing.
-use mathlib.Core.Path.{_≡_, refl, _∙_}
-use mathlib.Core.Bool.{Bool, true, false, _&&_}
+use mathlib.Core.Path.{_≡_, refl, sym, _∙_}
+use mathlib.Core.Bool.{Bool, true, false, cond, _&&_, _||_}
 use Prim.Native.Nat.{ℕ, _+_, _-_, _*_, _%_, _^_, _≤_, _<_}
 use native.Mathlib.Nat.{mul-le-mul, mod-eq-of-lt, lt-of-lt-of-le}
 use native.Mathlib.Omega.{arith}
 use mir.Syntax.{w64}
 use mir.Val.{Fits}
 use lib.Bits.{bitAnd, and-mask}
-use lib.Dec.{eqb}
+use lib.Dec.{leb, eqb}
 use lib.Pow.{pow-pos, pow-mono}
 use borrow.Author.Tests.{lt-leb, le-leb, ne-eqb}
 use Rattle.kinds.specs.Number.{pageBits}
@@ -16,12 +16,17 @@ use Rattle.kinds.specs.Powers.{eight-shl}
 use Rattle.kinds.specs.Tests.{by-cases}
 use Rattle.kinds.specs.declared.number.ByteAddress.{ByteAddress}
 use Rattle.kinds.specs.declared.number.PageSize.{PageSize}
+use Rattle.kinds.specs.declared.number.PageSize.the-variants.{K4, K64, M16, M256}
 use Rattle.kinds.specs.declared.record.TranslationEntry.{TranslationEntry}
-use Rattle.profile.specs.Entry.{pageSize, span, aligned, pagesGood}
+use Rattle.profile.specs.Entry.{pageSize, span, aligned, pagesGood, small}
 use Rattle.page_tables.specs.Shape.{known, sizeCode, shapeOf}
 use Rattle.page_tables.specs.declared.Shape.the-variants.{Pages, Bad}
 use Rattle.page_tables.specs.declared.SizeCode.{SizeCode}
 use Rattle.page_tables.specs.declared.SizeCode.the-variants.{Known, Unknown}
+
+and-true : (b : Bool) → (b && true) ≡ b
+and-true true = refl
+and-true false = refl
 
 and-false : (b : Bool) → (b && false) ≡ false
 and-false true = refl
@@ -35,7 +40,7 @@ coded e n z f = f ∙ rw z
 pub uncoded : (e : TranslationEntry) → (e .page ≡ 1 → ⊥) → (e .page ≡ 5 → ⊥) → (e .page ≡ 13 → ⊥) → (e .page ≡ 17 → ⊥) → Unknown ≡ sizeCode e
 uncoded e n1 n5 n13 n17 = rw (ne-eqb _ 1 n1, ne-eqb _ 5 n5, ne-eqb _ 13 n13, ne-eqb _ 17 n17)
 
--- `shape_of`: the page code
+-- the page code
 module _ (e : TranslationEntry) {c : SizeCode} (asks : c ≡ sizeCode e) where
   unknown-is : c ≡ Unknown → known e ≡ false
   unknown-is z = by-cases (known e) (λ t. let y = rw t at asks in cc) (λ t. t)
@@ -46,7 +51,23 @@ module _ (e : TranslationEntry) {c : SizeCode} (asks : c ≡ sizeCode e) where
   size-is : {s : PageSize} → c ≡ Known s → pageSize e ≡ s
   size-is z = by-cases (known e) (λ t. let y = rw t at asks in cc) (λ t. let y = rw t at asks in cc)
 
--- its ways out, in the order of the code
+-- `size_of`: no other page code has a size of its own
+none : (a b c d : Bool) → (a || b || c || d) ≡ false → M256 ≡ cond a K4 (cond b K64 (cond c M16 M256))
+none true _ _ _ z = cc
+none false true _ _ z = cc
+none false false true _ z = cc
+none false false false true z = cc
+none false false false false z = refl
+
+module _ (e : TranslationEntry) {c : SizeCode} (asks : c ≡ sizeCode e) where
+  pub other-size : c ≡ Unknown → M256 ≡ pageSize e
+  unfolding pageSize
+  other-size z = none (eqb (e .page) 1) (eqb (e .page) 5) (eqb (e .page) 13) (eqb (e .page) 17) (unknown-is e asks z)
+
+  pub known-size : {s : PageSize} → c ≡ Known s → s ≡ pageSize e
+  known-size z = sym (size-is e asks z)
+
+-- the ways out of `shape_of`, in the order of the code
 pub large-table : (e : TranslationEntry) → 31 < e .table → Bad ≡ shapeOf e
 large-table e h = rw (lt-leb _ _ h)
 
@@ -72,7 +93,7 @@ module _ (e : TranslationEntry) (small : e .table ≤ 31) {c : SizeCode} (asks :
 
         pub wide : 59 < b + e .levels * (e .table + 8) → Bad ≡ shapeOf e
         unfolding pagesGood
-        wide h = rw (le-leb _ _ small, span-is, lt-leb _ _ h, and-false)
+        wide h = rw (le-leb _ _ small, known-is e asks z, le-leb _ _ some, le-leb _ _ few, span-is, lt-leb _ _ h, and-false)
 
         module _ (fit : b + e .levels * (e .table + 8) ≤ 59) {ok : Bool} (base : ok ≡ aligned (e .table + 8) (record { 0 = e .base })) where
           pub unaligned : ok ≡ false → Bad ≡ shapeOf e
@@ -108,3 +129,20 @@ module _ {n : ℕ} (few : n ≤ 60) where
 pub at-zero : (n : ℕ) → 60 < n → (b : ByteAddress) → b .0 < 2 ^ 64 → eqb (b .0) 0 ≡ aligned n b
 unfolding aligned
 at-zero n h b fits = rw (mod-eq-of-lt (lt-of-lt-of-le fits (pow-mono {i = 64} {j = 3 + n} (omega arith))))
+
+-- `is_small`
+pub large-code : (e : TranslationEntry) → 31 < e .table → false ≡ small e
+unfolding small
+large-code e h = rw (lt-leb _ _ h)
+
+module _ (e : TranslationEntry) (table : e .table ≤ 31) where
+  pub deep : 5 < e .levels → false ≡ small e
+  unfolding small
+  deep h = rw (le-leb _ _ table, lt-leb _ _ h)
+
+  pub small-bits : e .levels ≤ 5 → leb ((e .table + 8) * e .levels) 59 ≡ small e
+  unfolding small
+  small-bits h = rw (le-leb _ _ table, le-leb _ _ h) (sym (and-true (leb ((e .table + 8) * e .levels) 59)))
+
+  pub bits-fit : e .levels ≤ 5 → Fits w64 ((e .table + 8) * e .levels)
+  bits-fit h = omega (arith, mul-le-mul (index-few (e .table) table) h)

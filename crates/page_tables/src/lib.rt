@@ -8,7 +8,7 @@ use profile::limits::MOST_LEVELS;
 use profile::limits::MOST_TABLE_CODE;
 use profile::limits::OFFSET_BITS;
 ghost use mathlib.Core.Path.{_≡_};
-ghost use Rattle.profile.specs.Entry.{aligned};
+ghost use Rattle.profile.specs.Entry.{aligned, pageSize, small};
 ghost use Rattle.page_tables.specs.Shape.{sizeCode, shapeOf};
 
 // The most bits of an index for which the bytes of a table are a number of 64 bits.
@@ -48,6 +48,30 @@ fn page_size(entry: TranslationEntry) -> SizeCode
         17 => SizeCode::Known(PageSize::M256),
         _ => SizeCode::Unknown,
     }
+}
+
+// The page size of an entry; of a page code that is not known it is 256 MiB.
+pub fn size_of(entry: TranslationEntry) -> PageSize
+    ensures { λ r. ⌜ r ≡ pageSize entry ⌝ }
+{
+    let SizeCode::Known(size) = page_size(entry) else {
+        return PageSize::M256;
+    };
+    size
+}
+
+// Whether the table of an entry can be walked at all.
+pub fn is_small(entry: TranslationEntry) -> bool
+    ensures { λ r. ⌜ r ≡ small entry ⌝ }
+{
+    let table = entry.table;
+    if MOST_TABLE_CODE < table {
+        return false;
+    }
+    if MOST_LEVELS < entry.levels {
+        return false;
+    }
+    (table + CODE_BITS) * entry.levels <= OFFSET_BITS
 }
 
 // The shape that an entry gives its table; a table code above the largest is bad.

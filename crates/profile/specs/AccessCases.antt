@@ -11,18 +11,20 @@ use Prim.Native.Nat.{ℕ, zero, suc, _+_, _-_, _*_, _^_}
 use lib.ListN.{set, replicate}
 use Rattle.kinds.specs.declared.answer.Answer.the-variants.{Ones, Drop}
 use Rattle.kinds.specs.declared.answer.Reason.the-variants.{TableLength, BadRequest, NoWindow}
-use Rattle.profile.specs.Tables.{Tables}
-use Rattle.profile.specs.Case.{Case, windowed, short, wide, quiet, idle, endpoint, states, stopped, empty, load, store, pass, keeps, refuses}
+use Rattle.profile.specs.Tables.{Tables, peerWords, windowWords}
+use Rattle.profile.specs.Windows.{m32Words, m64Words, m64Count}
+use Rattle.profile.specs.Case.{Case, windowed, short, wide, quiet, idle, endpoint, stateRow, calm, states, stopped, empty, load, store, pass, keeps, refuses}
 
 abbrev pub closed : List ℕ
-closed = replicate 67 0
+closed = replicate windowWords 0
 
 abbrev pub m32 : (base size pci : ℕ) → List ℕ
-m32 b n c = b ∷ n ∷ c ∷ replicate 64 0
+m32 b n c = b ∷ n ∷ c ∷ replicate (m64Count * m64Words) 0
 
 -- windows w with M64 window k
 abbrev pub m64 : (k base size mode pe : ℕ) → List ℕ → List ℕ
-m64 k b n m p w = set (set (set (set w (3 + k * 4) b) (4 + k * 4) n) (5 + k * 4) m) (6 + k * 4) p
+m64 k b n m p w =
+    set (set (set (set w (m32Words + k * m64Words) b) (m32Words + k * m64Words + 1) n) (m32Words + k * m64Words + 2) m) (m32Words + k * m64Words + 3) p
 
 -- segments 0 to 3 and 255 of M32 are PEs 0 to 3 and 3
 abbrev pub segments : List ℕ
@@ -63,7 +65,7 @@ accessChecks =
     -- the DMA stop bit alone, the upper bits and the stop bits of others do not stop a load or a store
     ∷ keeps one empty (endpoint 2 0 0) (load 0x40000000 4) (pass 0x40000000 2 0)
     ∷ keeps one empty (endpoint 6 0 0) (store 0x40000000 4) (pass 0x40000000 2 0)
-    ∷ keeps one empty (states (3 ∷ 0 ∷ 0 ∷ 3 ∷ 0 ∷ 0 ∷ 0 ∷ 0 ∷ 0 ∷ 3 ∷ 0 ∷ 0 ∷ [])) (load 0x40000000 4) (pass 0x40000000 2 0)
+    ∷ keeps one empty (states (stateRow 3 0 0) (stateRow 3 0 0) calm (stateRow 3 0 0)) (load 0x40000000 4) (pass 0x40000000 2 0)
     ∷ []
 
 unfoldable pub accessWidths : List Case
@@ -153,7 +155,7 @@ openFrom (suc n) k = m64 k 0x40000000 0x10000000 1 k (openFrom n (k + 1))
 
 -- a bridge of 16 PEs on which M64 windows k to 15 are open: k takes the load
 abbrev pub from : (k : ℕ) → Case
-from k = keeps (wide 16 (replicate 64 0) (openFrom (16 - k) k) segments) empty (quiet 16) (load 0x40000000 4) (pass 0x40000000 k 0)
+from k = keeps (wide 16 (replicate (16 * peerWords) 0) (openFrom (m64Count - k) k) segments) empty (quiet 16) (load 0x40000000 4) (pass 0x40000000 k 0)
 
 -- window 0 is closed, or covers other addresses; window 1 is PE 3's and takes the load
 abbrev pub over : (base size mode : ℕ) → Case

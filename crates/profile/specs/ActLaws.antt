@@ -2,28 +2,30 @@
 --     act-unseen          an effect at a PE outside the group, none of whose peers is inside, is not seen
 --     act-agrees          the same effect at a member, on two bridges that agree, keeps that they agree
 --     act-keeps           no effect changes the PE word of an interrupt
+--     no-peers            a freeze alone lists nobody; froze-past: a freeze leaves every word from PE N on, whatever bits are set
 -- A new effect adds a clause to each.
 -- Assumes nothing.
 use mathlib.Core.Path.{_≡_, refl, sym, _∙_}
 use mathlib.Core.Bool.{Bool, true, false, _&&_}
 use mathlib.Core.List.{List}
-use Prim.Native.Nat.{ℕ, _+_, _*_, _/_, _%_, _<_, _≤_}
+use Prim.Native.Nat.{ℕ, zero, suc, _+_, _*_, _/_, _%_, _<_, _≤_}
+use native.Mathlib.Nat.{zero-div}
 use native.Mathlib.Omega.{arith}
 use lib.Dec.{ltb, eqb}
 use lib.ListN.{length, set, length-set}
-use borrow.Author.Tests.{ltb-true, ltb-false, eqb-true, eq-eqb, ne-eqb}
-use Rattle.kinds.specs.Answer.{reasonNumber}
+use lib.Seq.{getD-set-other}
+use borrow.Author.Tests.{ltb-true, ltb-false, le-ltb, eqb-true, eq-eqb, ne-eqb}
 use Rattle.kinds.specs.Tests.{by-cases, clash, and-left}
 use Rattle.kinds.specs.Words.{at, bitOf}
 use Rattle.kinds.specs.WordsLaws.{at-out, at-set, at-mapAt, length-mapAt}
-use Rattle.kinds.specs.declared.answer.Reason.the-variants.{FrozenAsPeer}
 use Rattle.kinds.specs.declared.number.PeNumber.{PeNumber}
 use Rattle.kinds.specs.declared.outcome.Effect.{Effect}
 use Rattle.kinds.specs.declared.outcome.Effect.the-variants.{Keep, Freeze, Release, Interrupt}
+use Rattle.kinds.specs.declared.outcome.ErrorRecord.{ErrorRecord}
 use Rattle.kinds.specs.declared.request.Part.{Part}
 use Rattle.kinds.specs.declared.request.Part.the-variants.{Mmio, Dma, Record}
-use Rattle.profile.specs.Tables.{Tables, Live, interruptWords, stateWords}
-use Rattle.profile.specs.Freeze.{stopWord, reasonWord, valueWord, vector, marked, frozen, froze, released}
+use Rattle.profile.specs.Tables.{Live, interruptWords, stateWords}
+use Rattle.profile.specs.Freeze.{stopWord, reasonWord, valueWord, vectorIn, noPeers, taken, asPeer, marked, frozen, ofPes, froze, released}
 use Rattle.profile.specs.Msi.{interrupt}
 use Rattle.profile.specs.Step.{act}
 use Rattle.profile.specs.Agree.{peOf, seenWord, interruptPe, Same}
@@ -40,7 +42,7 @@ interruptStored i j v s = record { state = s .state; interrupts = set (s .interr
 
 -- into another word than the PE word
 pe-kept : (i j v k : ℕ) → 0 < j → j < interruptWords → (s : Live) → interrupt (interruptStored i j v s) k .pe ≡ interrupt s k .pe
-pe-kept i j v k lo hi s = rw (at-set, ne-eqb (k * interruptWords) (i * interruptWords + j) (omega arith))
+pe-kept i j v k lo hi s = getD-set-other (s .interrupts) (i * interruptWords + j) (k * interruptWords) v _ (λ e. omega arith)
 
 module _ {G : PeNumber → Bool} {n : ℕ} where
   stateStored-unseen : (j v : ℕ) → G (peOf j) ≡ false → (s : Live) → Same G n s (stateStored j v s)
@@ -49,7 +51,7 @@ module _ {G : PeNumber → Bool} {n : ℕ} where
     interrupts-length = refl;
     state-word = λ i g. rw (at-set, ne-eqb i j (λ e. clash g (rw e out)));
     interrupt-pe = λ i h. refl;
-    interrupt-word = λ i h g k b. refl;
+    interrupt-word = λ i h g k l b. refl;
   }
 
   -- into an interrupt that is none of the n, or not the group's
@@ -60,7 +62,7 @@ module _ {G : PeNumber → Bool} {n : ℕ} where
     interrupts-length = sym (length-set (s .interrupts) (i * interruptWords + j) v);
     state-word = λ k g. refl;
     interrupt-pe = λ k h. sym (pe-kept i j v k lo hi s);
-    interrupt-word = λ k h g l b.
+    interrupt-word = λ k h g l a b.
         rw (at-set, ne-eqb (k * interruptWords + l) (i * interruptWords + j) (λ e. clash g (let z : k ≡ i = omega arith in rw z (out (rw z at h)))));
   }
 
@@ -82,11 +84,11 @@ module _ {G : PeNumber → Bool} {n : ℕ} where
     interrupts-length = simp length-set (r .interrupts-length);
     state-word = r .state-word;
     interrupt-pe = λ k h. rw (pe-kept i j v k lo hi s, pe-kept i j v k lo hi t) (r .interrupt-pe k h);
-    interrupt-word = λ k h g l b.
+    interrupt-word = λ k h g l a b.
         let u : G (interruptPe s k) ≡ true = rw (pe-kept i j v k lo hi s) at g in
         simp (at-set, r .interrupts-length)
         (by-cases (eqb (k * interruptWords + l) (i * interruptWords + j) && ltb (k * interruptWords + l) (length (t .interrupts)))
-        (λ o. rw o) (λ o. rw o (r .interrupt-word k h u l b)));
+        (λ o. rw o) (λ o. rw o (r .interrupt-word k h u l a b)));
   }
 
   -- the two words that an effect of an interrupt writes
@@ -99,31 +101,54 @@ module _ {G : PeNumber → Bool} {n : ℕ} where
       → Same G n (interruptStored i 3 b (interruptStored i 2 v s)) (interruptStored i 3 b (interruptStored i 2 v t))
   written-agrees r i v b = interruptStored-agrees (interruptStored-agrees r i 2 v (omega arith) (omega arith)) i 3 b (omega arith) (omega arith)
 
+-- ---- a freeze
+
+none-at : (j : ℕ) → at noPeers j ≡ 0
+none-at zero = refl
+none-at (suc zero) = refl
+none-at (suc (suc zero)) = refl
+none-at (suc (suc (suc zero))) = refl
+none-at (suc (suc (suc (suc j)))) = refl
+
+pub no-peers : (k : ℕ) → bitOf noPeers k ≡ false
+no-peers k = rw (none-at (k / 64), zero-div)
+
+pub froze-past : (n : ℕ) (v : List ℕ) (p : PeNumber) (e : ErrorRecord) (l : List ℕ) (i : ℕ) → n ≤ i / stateWords → at (froze n v p e l) i ≡ at l i
+froze-past n v p e l i h =
+    rw (at-mapAt, le-ltb (i / stateWords) n h) (by-cases (ltb i (length l)) (λ o. rw o) (λ o. rw (o, at-out l i o)))
+
 -- ---- an effect at a PE outside
 
-module _ {G : PeNumber → Bool} (f : Tables) (p : PeNumber) (out : G p ≡ false)
-    (away : (k : PeNumber) → G k ≡ true → bitOf (vector f p) (k .0) ≡ false) where
+module _ {G : PeNumber → Bool} (n : ℕ) (v : List ℕ) (p : PeNumber) (out : G p ≡ false)
+    (away : (k : PeNumber) → k .0 < n → G k ≡ true → bitOf (vectorIn v p) (k .0) ≡ false) where
   own-word : (j : ℕ) → j / stateWords ≡ p .0 → G (peOf j) ≡ false
   own-word j e = rw e out
 
-  frozen-unseen : (r v : ℕ) (l : List ℕ) (i x : ℕ) → G (peOf i) ≡ true → frozen (vector f p) p r v l i x ≡ x
-  unfolding frozen
-  frozen-unseen r v l i x g = rw (ne-eqb (i / stateWords) (p .0) (λ e. clash g (own-word i e)), away (peOf i) g)
+  unlisted : (b : Bool) (k : PeNumber) → k .0 < n → G k ≡ true → bitOf (taken b v p) (k .0) ≡ false
+  unlisted true k h g = away k h g
+  unlisted false k h g = no-peers (k .0)
 
-  module _ {n : ℕ} (s : Live) where
-    froze-unseen : (r v : ℕ) → Same G n s (record { state = froze (vector f p) p r v (s .state); interrupts = s .interrupts })
-    froze-unseen r v = record {
-      state-length = sym (length-mapAt (frozen (vector f p) p r v (s .state)) 0 (s .state));
+  frozen-unseen : (b : Bool) (e : ErrorRecord) (l : List ℕ) (i x : ℕ) → G (peOf i) ≡ true → ofPes n (frozen (taken b v p) p e l) i x ≡ x
+  unfolding frozen
+  frozen-unseen b e l i x g =
+      by-cases (ltb (i / stateWords) n)
+      (λ o. rw (o, ne-eqb (i / stateWords) (p .0) (λ z. clash g (own-word i z)), unlisted b (peOf i) (ltb-true (i / stateWords) n o) g))
+      (λ o. rw o)
+
+  module _ {k : ℕ} (s : Live) where
+    froze-unseen : (b : Bool) (e : ErrorRecord) → Same G k s (record { state = froze n (taken b v p) p e (s .state); interrupts = s .interrupts })
+    froze-unseen b e = record {
+      state-length = sym (length-mapAt (ofPes n (frozen (taken b v p) p e (s .state))) 0 (s .state));
       interrupts-length = refl;
       state-word = λ i g. rw at-mapAt
           (by-cases (ltb i (length (s .state)))
-          (λ o. rw (o, frozen-unseen r v (s .state) i (at (s .state) i) g))
+          (λ o. rw (o, frozen-unseen b e (s .state) i (at (s .state) i) g))
           (λ o. rw (o, at-out (s .state) i o)));
       interrupt-pe = λ i h. refl;
-      interrupt-word = λ i h g j b. refl;
+      interrupt-word = λ i h g j l b. refl;
     }
 
-    released-unseen : (c : Part) → Same G n s (record { state = released c p (s .state); interrupts = s .interrupts })
+    released-unseen : (c : Part) → Same G k s (record { state = released c p (s .state); interrupts = s .interrupts })
     unfolding released
     released-unseen Mmio = stateStored-unseen (stopWord p) (at (s .state) (stopWord p) / 2 * 2) (own-word (stopWord p) (omega arith)) s
     released-unseen Dma =
@@ -132,43 +157,48 @@ module _ {G : PeNumber → Bool} (f : Tables) (p : PeNumber) (out : G p ≡ fals
         same-trans (stateStored-unseen (reasonWord p) 0 (own-word (reasonWord p) (omega arith)) s)
         (stateStored-unseen (valueWord p) 0 (own-word (valueWord p) (omega arith)) (stateStored (reasonWord p) 0 s))
 
-    pub act-unseen : (e : Effect) → Same G n s (act f p e s)
+    pub act-unseen : (e : Effect) → Same G k s (act n v p e s)
     unfolding act
     act-unseen Keep = same-refl s
-    act-unseen (Freeze r v) = froze-unseen (reasonNumber r) v
+    act-unseen (Freeze e b) = froze-unseen b e
     act-unseen (Release c) = released-unseen c
-    act-unseen (Interrupt i k b) =
+    act-unseen (Interrupt i j b) =
         by-cases (eqb (interrupt s i .pe) (p .0))
-        (λ o. rw o (written-unseen i k b s (λ h. rw (eqb-true (interrupt s i .pe) (p .0) o) out)))
+        (λ o. rw o (written-unseen i j b s (λ h. rw (eqb-true (interrupt s i .pe) (p .0) o) out)))
         (λ o. rw o (same-refl s))
 
 -- ---- the same effect at a member, on both sides
 
-marked-agrees : (r v o i x y : ℕ) → seenWord i x ≡ seenWord i y → seenWord i (marked r v o i x) ≡ seenWord i (marked r v o i y)
+marked-agrees : (e : ErrorRecord) (o i x y : ℕ) → seenWord i x ≡ seenWord i y → seenWord i (marked e o i x) ≡ seenWord i (marked e o i y)
 unfolding marked
-marked-agrees r v o i x y e = by-cases (eqb (i % stateWords) 0) (λ z. rw z (omega arith)) (λ z. let d : x ≡ y = rw z at e in rw d)
+marked-agrees e o i x y h = by-cases (eqb (i % stateWords) 0) (λ z. rw z (omega arith)) (λ z. let d : x ≡ y = rw z at h in rw d)
 
-frozen-agrees : (w : List ℕ) (p : PeNumber) (r v : ℕ) (l m : List ℕ) (i x y : ℕ) → at l (i / stateWords * stateWords + 1) ≡ at m (i / stateWords * stateWords + 1)
-    → seenWord i x ≡ seenWord i y → seenWord i (frozen w p r v l i x) ≡ seenWord i (frozen w p r v m i y)
+frozen-agrees : (w : List ℕ) (p : PeNumber) (e : ErrorRecord) (l m : List ℕ) (i x y : ℕ) → at l (i / stateWords * stateWords + 1) ≡ at m (i / stateWords * stateWords + 1)
+    → seenWord i x ≡ seenWord i y → seenWord i (frozen w p e l i x) ≡ seenWord i (frozen w p e m i y)
 unfolding frozen
-frozen-agrees w p r v l m i x y o e =
+frozen-agrees w p e l m i x y o h =
     rw o
     (by-cases (eqb (i / stateWords) (p .0))
-    (λ z. rw z (marked-agrees r v (at m (i / stateWords * stateWords + 1)) i x y e))
+    (λ z. rw z (marked-agrees e (at m (i / stateWords * stateWords + 1)) i x y h))
     (λ z. rw z (by-cases (bitOf w (i / stateWords))
-    (λ b. rw b (marked-agrees (reasonNumber FrozenAsPeer) (p .0) (at m (i / stateWords * stateWords + 1)) i x y e))
-    (λ b. rw b e))))
+    (λ b. rw b (marked-agrees (asPeer p) (at m (i / stateWords * stateWords + 1)) i x y h))
+    (λ b. rw b h))))
 
 module _ {G : PeNumber → Bool} {n : ℕ} {s t : Live} (r : Same G n s t) where
-  froze-agrees : (w : List ℕ) (p : PeNumber) (k v : ℕ)
-      → Same G n (record { state = froze w p k v (s .state); interrupts = s .interrupts }) (record { state = froze w p k v (t .state); interrupts = t .interrupts })
-  froze-agrees w p k v = record {
+  rule-agrees : (k : ℕ) (w : List ℕ) (p : PeNumber) (e : ErrorRecord) (i : ℕ) → G (peOf i) ≡ true
+      → seenWord i (ofPes k (frozen w p e (s .state)) i (at (s .state) i)) ≡ seenWord i (ofPes k (frozen w p e (t .state)) i (at (t .state) i))
+  rule-agrees k w p e i g =
+      by-cases (ltb (i / stateWords) k)
+      (λ o. rw o (frozen-agrees w p e (s .state) (t .state) i (at (s .state) i) (at (t .state) i) (reason-agrees r i g) (r .state-word i g)))
+      (λ o. rw o (r .state-word i g))
+
+  froze-agrees : (k : ℕ) (w : List ℕ) (p : PeNumber) (e : ErrorRecord)
+      → Same G n (record { state = froze k w p e (s .state); interrupts = s .interrupts }) (record { state = froze k w p e (t .state); interrupts = t .interrupts })
+  froze-agrees k w p e = record {
     state-length = simp length-mapAt (r .state-length);
     interrupts-length = r .interrupts-length;
     state-word = λ i g. simp (at-mapAt, r .state-length)
-        (by-cases (ltb i (length (t .state)))
-        (λ o. rw o (frozen-agrees w p k v (s .state) (t .state) i (at (s .state) i) (at (t .state) i) (reason-agrees r i g) (r .state-word i g)))
-        (λ o. rw o));
+        (by-cases (ltb i (length (t .state))) (λ o. rw o (rule-agrees k w p e i g)) (λ o. rw o));
     interrupt-pe = r .interrupt-pe;
     interrupt-word = r .interrupt-word;
   }
@@ -185,32 +215,32 @@ module _ {G : PeNumber → Bool} {n : ℕ} {s t : Live} (r : Same G n s t) where
   released-agrees Record p u = stateStored-agrees (stateStored-agrees r (reasonWord p) 0 0 refl) (valueWord p) 0 0 refl
 
   -- an interrupt's PE is not public from n on, and what is written there is not seen
-  interrupt-written : (f : Tables) (p : PeNumber) (i v b : ℕ) → Same G n (act f p (Interrupt i v b) s) (act f p (Interrupt i v b) t)
+  interrupt-written : (k : ℕ) (w : List ℕ) (p : PeNumber) (i v b : ℕ) → Same G n (act k w p (Interrupt i v b) s) (act k w p (Interrupt i v b) t)
   unfolding act
-  interrupt-written f p i v b =
+  interrupt-written k w p i v b =
       by-cases (ltb i n)
       (λ h. rw (r .interrupt-pe i (ltb-true i n h))
       (by-cases (eqb (interrupt t i .pe) (p .0)) (λ o. rw o (written-agrees r i v b)) (λ o. rw o r)))
       (λ h. same-trans (same-sym (beyond s (ltb-false i n h))) (same-trans r (beyond t (ltb-false i n h))))
     where
-      beyond : (u : Live) → n ≤ i → Same G n u (act f p (Interrupt i v b) u)
+      beyond : (u : Live) → n ≤ i → Same G n u (act k w p (Interrupt i v b) u)
       beyond u h = by-cases (eqb (interrupt u i .pe) (p .0)) (λ o. rw o (written-unseen i v b u (λ l. absurd (omega arith)))) (λ o. rw o (same-refl u))
 
-  pub act-agrees : (f g : Tables) (p : PeNumber) → G p ≡ true → vector f p ≡ vector g p → (e : Effect) → Same G n (act f p e s) (act g p e t)
+  pub act-agrees : (k : ℕ) (w : List ℕ) (p : PeNumber) → G p ≡ true → (e : Effect) → Same G n (act k w p e s) (act k w p e t)
   unfolding act
-  act-agrees f g p u w Keep = r
-  act-agrees f g p u w (Freeze k v) = rw w (froze-agrees (vector g p) p (reasonNumber k) v)
-  act-agrees f g p u w (Release c) = released-agrees c p u
-  act-agrees f g p u w (Interrupt i v b) = interrupt-written g p i v b
+  act-agrees k w p u Keep = r
+  act-agrees k w p u (Freeze e b) = froze-agrees k (taken b w p) p e
+  act-agrees k w p u (Release c) = released-agrees c p u
+  act-agrees k w p u (Interrupt i v b) = interrupt-written k w p i v b
 
 -- ---- what no effect changes
 
-pub act-keeps : (f : Tables) (p : PeNumber) (e : Effect) (s : Live) (i : ℕ) → interrupt (act f p e s) i .pe ≡ interrupt s i .pe
+pub act-keeps : (n : ℕ) (w : List ℕ) (p : PeNumber) (e : Effect) (s : Live) (i : ℕ) → interrupt (act n w p e s) i .pe ≡ interrupt s i .pe
 unfolding act
-act-keeps f p Keep s i = refl
-act-keeps f p (Freeze r v) s i = refl
-act-keeps f p (Release c) s i = refl
-act-keeps f p (Interrupt j v b) s i =
+act-keeps n w p Keep s i = refl
+act-keeps n w p (Freeze e b) s i = refl
+act-keeps n w p (Release c) s i = refl
+act-keeps n w p (Interrupt j v b) s i =
     by-cases (eqb (interrupt s j .pe) (p .0))
     (λ o. rw o (pe-kept j 3 b i (omega arith) (omega arith) (interruptStored j 2 v s) ∙ pe-kept j 2 v i (omega arith) (omega arith) s))
     (λ o. rw o)

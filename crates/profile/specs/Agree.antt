@@ -2,13 +2,13 @@
 --     owned G o           the owner o is a PE of group G
 --     belongs G f s q     request q belongs to a PE of the group
 --     Closed G f          no PE outside the group lists a member in its peer vector; members may list PEs outside. A number of N and above
---                         may be in G: no request belongs to it
+--                         may be in G: no request belongs to it, and bits for it are ignored
 --     peOf i              the PE that word i of the state belongs to
 --     seenWord i x        what counts of word i, of value x, of the state: of a stop word the lowest two bits, of another word all
 --     interruptPe s i     the PE that interrupt i belongs to
 --     Same G n s t        state and interrupts: lengths, the group's words, the PE word of each of n interrupts, the interrupt records of the group
 --     Alike G f g         the fixed tables: sizes, requesters, peers, windows, segments, the length of the entries, the entries of the group
---     Reads G f m k       memory word k is read by a walk of a member for some address of the DMA class, whatever the stop bits are
+--     Reads G f m k       memory word k is read by a walk of a member, a PE below N, for some address of the DMA class, whatever the stop bits are
 --     Held G f m n        memories m and n: their lengths, and every word that a walk of a member reads in the first
 -- Assumes nothing.
 use mathlib.Core.Path.{_≡_}
@@ -39,7 +39,7 @@ abbrev pub belongs : (PeNumber → Bool) → Tables → Live → Request → Boo
 belongs G f s q = owned G (owner f s q)
 
 pub record Closed (G : PeNumber → Bool) (f : Tables) : Type 0 where
-  pub unlisted : (p k : PeNumber) → p .0 < f .sizes .pes → G p ≡ false → G k ≡ true → bitOf (vector f p) (k .0) ≡ false
+  pub unlisted : (p k : PeNumber) → p .0 < f .sizes .pes → k .0 < f .sizes .pes → G p ≡ false → G k ≡ true → bitOf (vector f p) (k .0) ≡ false
 
 abbrev pub peOf : (place : ℕ) → PeNumber
 peOf i = record { 0 = i / stateWords }
@@ -55,7 +55,7 @@ pub record Same (G : PeNumber → Bool) (n : ℕ) (s t : Live) : Type 0 where
   pub interrupts-length : length (s .interrupts) ≡ length (t .interrupts)
   pub state-word : (i : ℕ) → G (peOf i) ≡ true → seenWord i (at (s .state) i) ≡ seenWord i (at (t .state) i)
   pub interrupt-pe : (i : ℕ) → i < n → interrupt s i .pe ≡ interrupt t i .pe
-  pub interrupt-word : (i : ℕ) → i < n → G (interruptPe s i) ≡ true → (j : ℕ) → j < interruptWords
+  pub interrupt-word : (i : ℕ) → i < n → G (interruptPe s i) ≡ true → (j : ℕ) → 0 < j → j < interruptWords
       → at (s .interrupts) (i * interruptWords + j) ≡ at (t .interrupts) (i * interruptWords + j)
 
 pub record Alike (G : PeNumber → Bool) (f g : Tables) : Type 0 where
@@ -71,6 +71,7 @@ pub record Alike (G : PeNumber → Bool) (f g : Tables) : Type 0 where
 pub record Reads (G : PeNumber → Bool) (f : Tables) (m : List ℕ) (k : ℕ) : Type 0 where
   pub pe : PeNumber
   pub member : G pe ≡ true
+  pub below : pe .0 < f .sizes .pes
   pub address : ByteAddress
   pub dma : classOf address ≡ Dma
   pub word : List·Memᴰ k (reads f m pe address)

@@ -3,7 +3,7 @@
 --     stop-agrees, reason-agrees  the stop bits and the reason of a member
 --     interrupt-agrees    the record of an interrupt of a member
 --     entry-agrees        the translation entries of a member; half-agrees: the one that an address picks
---     walk-agrees         a member's walk is the same over both memories; reads-agrees: so it reads the same places
+--     translation-agrees  a member's translation is the same over both memories; reads-agrees: so it reads the same places
 --     held-refl, held-sym, held-trans     `Held` is an equivalence too: its premise on the words of the first memory is none on the second's
 -- Assumes nothing.
 use mathlib.Core.Path.{_≡_, refl, sym, _∙_}
@@ -16,11 +16,12 @@ use Rattle.kinds.specs.Words.{at}
 use Rattle.kinds.specs.declared.number.ByteAddress.{ByteAddress}
 use Rattle.kinds.specs.declared.number.PeNumber.{PeNumber}
 use Rattle.kinds.specs.declared.request.AddressClass.the-variants.{Dma}
+use Rattle.kinds.specs.declared.request.Direction.{Direction}
 use Rattle.profile.specs.Tables.{Tables, Live, recordWords, stateWords}
 use Rattle.profile.specs.Freeze.{stopWord}
-use Rattle.profile.specs.Entry.{classOf, half, entry, pageOf, walks}
-use Rattle.profile.specs.Walk.{walk, reads}
-use Rattle.profile.specs.WalkLaws.{walk-reads, reads-reads}
+use Rattle.profile.specs.Entry.{classOf, half, offset, entry}
+use Rattle.profile.specs.Walk.{translated, reads}
+use Rattle.profile.specs.WalkLaws.{translated-reads, reads-reads}
 use Rattle.profile.specs.Msi.{interrupt}
 use Rattle.profile.specs.Agree.{peOf, interruptPe, Same, Alike, Reads, Held}
 
@@ -31,7 +32,7 @@ module _ {G : PeNumber → Bool} {n : ℕ} where
     interrupts-length = refl;
     state-word = λ i g. refl;
     interrupt-pe = λ i h. refl;
-    interrupt-word = λ i h g j b. refl;
+    interrupt-word = λ i h g j l b. refl;
   }
 
   pub same-sym : {s t : Live} → Same G n s t → Same G n t s
@@ -40,7 +41,7 @@ module _ {G : PeNumber → Bool} {n : ℕ} where
     interrupts-length = sym (r .interrupts-length);
     state-word = λ i g. sym (r .state-word i g);
     interrupt-pe = λ i h. sym (r .interrupt-pe i h);
-    interrupt-word = λ i h g j b. sym (r .interrupt-word i h (rw (r .interrupt-pe i h) g) j b);
+    interrupt-word = λ i h g j l b. sym (r .interrupt-word i h (rw (r .interrupt-pe i h) g) j l b);
   }
 
   pub same-trans : {s t u : Live} → Same G n s t → Same G n t u → Same G n s u
@@ -49,7 +50,7 @@ module _ {G : PeNumber → Bool} {n : ℕ} where
     interrupts-length = r .interrupts-length ∙ q .interrupts-length;
     state-word = λ i g. r .state-word i g ∙ q .state-word i g;
     interrupt-pe = λ i h. r .interrupt-pe i h ∙ q .interrupt-pe i h;
-    interrupt-word = λ i h g j b. r .interrupt-word i h g j b ∙ q .interrupt-word i h (rw (← r .interrupt-pe i h) g) j b;
+    interrupt-word = λ i h g j l b. r .interrupt-word i h g j l b ∙ q .interrupt-word i h (rw (← r .interrupt-pe i h) g) j l b;
   }
 
   module _ {s t : Live} (r : Same G n s t) where
@@ -68,9 +69,9 @@ module _ {G : PeNumber → Bool} {n : ℕ} where
     interrupt-agrees i h g =
         rw (
           r .interrupt-pe i h,
-          r .interrupt-word i h g 1 (omega arith),
-          r .interrupt-word i h g 2 (omega arith),
-          r .interrupt-word i h g 3 (omega arith),
+          r .interrupt-word i h g 1 (omega arith) (omega arith),
+          r .interrupt-word i h g 2 (omega arith) (omega arith),
+          r .interrupt-word i h g 3 (omega arith) (omega arith),
         )
 
 pub alike-refl : {G : PeNumber → Bool} (f : Tables) → Alike G f f
@@ -98,34 +99,35 @@ module _ {G : PeNumber → Bool} {f g : Tables} (w : Alike G f g) where
   half-agrees p u a = entry-agrees p u (half a) (omega arith)
 
 module _ {G : PeNumber → Bool} {f : Tables} where
-  module _ {m n : List ℕ} (h : Held G f m n) (p : PeNumber) (u : G p ≡ true) (a : ByteAddress) (c : classOf a ≡ Dma) where
+  module _ {m n : List ℕ} (h : Held G f m n) (p : PeNumber) (u : G p ≡ true) (b : p .0 < f .sizes .pes) (a : ByteAddress) (c : classOf a ≡ Dma) where
     word-agrees : (k : ℕ) → List·Memᴰ k (reads f m p a) → at m k ≡ at n k
-    word-agrees k z = h .table-word k (record { pe = p; member = u; address = a; dma = c; word = z })
+    word-agrees k z = h .table-word k (record { pe = p; member = u; below = b; address = a; dma = c; word = z })
 
-    pub walk-agrees : walks (entry f p (half a)) a ≡ true
-        → walk m (entry f p (half a)) (pageOf (entry f p (half a)) a) ≡ walk n (entry f p (half a)) (pageOf (entry f p (half a)) a)
-    walk-agrees o = walk-reads m n (h .memory-length) (entry f p (half a)) a word-agrees o
+    pub translation-agrees : (d : Direction) → translated m (entry f p (half a)) d (offset a) ≡ translated n (entry f p (half a)) d (offset a)
+    translation-agrees = translated-reads m n (h .memory-length) (entry f p (half a)) (offset a) word-agrees
 
     pub reads-agrees : reads f m p a ≡ reads f n p a
-    reads-agrees = reads-reads m n (h .memory-length) (entry f p (half a)) a word-agrees
+    reads-agrees = reads-reads m n (h .memory-length) (entry f p (half a)) (offset a) word-agrees
 
   -- a member's walk reads word k in the one memory where it does in the other
   on : {m n : List ℕ} → Held G f m n → (k : ℕ) → Reads G f m k → Reads G f n k
   on h k r = record {
     pe = r .pe;
     member = r .member;
+    below = r .below;
     address = r .address;
     dma = r .dma;
-    word = rw (← reads-agrees h (r .pe) (r .member) (r .address) (r .dma)) (r .word);
+    word = rw (← reads-agrees h (r .pe) (r .member) (r .below) (r .address) (r .dma)) (r .word);
   }
 
   back : {m n : List ℕ} → Held G f m n → (k : ℕ) → Reads G f n k → Reads G f m k
   back h k r = record {
     pe = r .pe;
     member = r .member;
+    below = r .below;
     address = r .address;
     dma = r .dma;
-    word = rw (reads-agrees h (r .pe) (r .member) (r .address) (r .dma)) (r .word);
+    word = rw (reads-agrees h (r .pe) (r .member) (r .below) (r .address) (r .dma)) (r .word);
   }
 
   pub held-refl : (m : List ℕ) → Held G f m m

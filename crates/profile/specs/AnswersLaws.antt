@@ -11,7 +11,7 @@ use Prim.Native.Nat.{ℕ, _*_, _/_, _%_}
 use lib.Dec.{ltb, eqb}
 use lib.ListN.{length}
 use Rattle.kinds.specs.Answer.{numbered}
-use Rattle.kinds.specs.Outcome.{refused}
+use Rattle.kinds.specs.Checked.{Checked, Kept, Ready, Walk}
 use Rattle.kinds.specs.Words.{at}
 use Rattle.kinds.specs.declared.answer.Answer.{Answer}
 use Rattle.kinds.specs.declared.answer.Answer.the-variants.{Ones, Drop, Refuse}
@@ -23,6 +23,8 @@ use Rattle.kinds.specs.declared.lookup.Hit.{Hit}
 use Rattle.kinds.specs.declared.lookup.Hit.the-variants.{At, Miss}
 use Rattle.kinds.specs.declared.lookup.Owner.{Owner}
 use Rattle.kinds.specs.declared.lookup.Owner.the-variants.{Of, Nobody}
+use Rattle.kinds.specs.declared.lookup.Translated.{Translated}
+use Rattle.kinds.specs.declared.lookup.Translated.the-variants.{To, Fault}
 use Rattle.kinds.specs.declared.number.ByteAddress.{ByteAddress}
 use Rattle.kinds.specs.declared.number.PageSize.{PageSize}
 use Rattle.kinds.specs.declared.number.PeNumber.{PeNumber}
@@ -34,28 +36,34 @@ use Rattle.kinds.specs.declared.record.TranslationEntry.{TranslationEntry}
 use Rattle.kinds.specs.declared.request.AddressClass.{AddressClass}
 use Rattle.kinds.specs.declared.request.AddressClass.the-variants as class
 use Rattle.kinds.specs.declared.request.Direction.{Direction}
+use Rattle.kinds.specs.declared.request.DmaRequest.{DmaRequest}
 use Rattle.kinds.specs.declared.request.Request.{Request}
-use Rattle.kinds.specs.declared.request.Request.the-variants.{Dma, Load, Store, Error, Clear, End, Priority}
+use Rattle.kinds.specs.declared.request.Request.the-variants.{Dma, Load, Store, Error, Clear, End, Priority, Unnamed}
 use Rattle.profile.specs.Tables.{Tables, Live, lengths, sized, named}
 use Rattle.profile.specs.Freeze.{stopWord, mmioStopped, dmaStopped}
-use Rattle.profile.specs.Entry.{classOf, half, offset, entry, pageSize, tableGood, bypass, bypassGood, pagesGood, inBypass, walks, unwalked}
-use Rattle.profile.specs.Walk.{allows, arriveAt}
-use Rattle.profile.specs.Msi.{interrupt, ranged, number32, number64, msiFormed, presents, announced, delivered, msi}
+use Rattle.profile.specs.Entry.{classOf, half, offset, entryIn, pageSize, pageOf, tableGood, bypass, bypassGood, pagesGood, inBypass, walks, unwalked}
+use Rattle.profile.specs.Walk.{allows, landed, walkedPage, byPages}
+use Rattle.profile.specs.Msi.{holding, interruptIn, interrupt, ranged, number32, number64, msiFormed, presents, announced, delivered, msi}
 use Rattle.profile.specs.Firmware.{onGood, ends, prioritized}
 use Rattle.profile.specs.Windows.{route, onesOf}
-use Rattle.profile.specs.Step.{Asked, Ready, Walk, formed, served, accessed, ask, finish, act, settled, decidedBy, actBy, decided, answered, after}
-use Rattle.profile.specs.Owner.{ofRequester, ofInterrupt, ofHit, owner}
+use Rattle.profile.specs.Step.{formed, outcomeOf, byEntry, served, dmaAsked, accessed, ask, asked, checked, finish, act, actBy, decided, answered, after}
+use Rattle.profile.specs.Owner.{ofRequester, ofInterrupt, ofHit, ownerIn, owner}
 
 unfoldable pub shown : Answer → Bool
 shown a = not (eqb (numbered a .reason) 12) && not (eqb (numbered a .reason) 13)
 
--- the answers that an outcome, what was asked, or an owner stands for
+-- the answers that an outcome, what was checked, a translation, or an owner stands for
 abbrev outcomeShown : Outcome → Bool
 outcomeShown o = shown (o .answer)
 
-abbrev askedShown : Asked → Bool
-askedShown (Ready o) = outcomeShown o
-askedShown (Walk d a n) = true
+abbrev checkedShown : Checked → Bool
+checkedShown (Kept a) = shown a
+checkedShown (Ready p o) = outcomeShown o
+checkedShown (Walk p e q) = true
+
+abbrev translatedShown : Translated → Bool
+translatedShown (To a) = true
+translatedShown (Fault r j) = shown (Refuse r 0)
 
 abbrev ownerShown : Owner → Bool
 ownerShown (Of p) = true
@@ -65,20 +73,30 @@ either : {A : Type 0} (P : A → Bool) (b : Bool) {x y : A} → P x ≡ true →
 either P true p q = p
 either P false p q = q
 
-arriveAt-shown : (z : PageSize) (d : Direction) (p : PeNumber) (a : ByteAddress) (w : Found) (n : ℕ) → outcomeShown (arriveAt z d p a w n) ≡ true
-unfolding arriveAt shown
-arriveAt-shown z d p a (Frame w) n = either outcomeShown (allows d w) refl refl
-arriveAt-shown z d p a (Forbidden j) n = refl
-arriveAt-shown z d p a (Outside j) n = refl
+landed-shown : (z : PageSize) (d : Direction) (o : ByteAddress) (w : Found) → translatedShown (landed z d o w) ≡ true
+unfolding landed shown
+landed-shown z d o (Frame j w) = either translatedShown (allows d w) refl refl
+landed-shown z d o (Forbidden j) = refl
+landed-shown z d o (Outside j) = refl
 
-unwalked-shown : (p : PeNumber) (e : TranslationEntry) (a : ByteAddress) → outcomeShown (unwalked p e a) ≡ true
+unwalked-shown : (e : TranslationEntry) (o : ByteAddress) → translatedShown (unwalked e o) ≡ true
 unfolding unwalked shown
-unwalked-shown p e a =
-    either outcomeShown (tableGood e)
-    (either outcomeShown (bypass e)
-    (either outcomeShown (bypassGood e) (either outcomeShown (inBypass e (offset a)) refl refl) refl)
-    (either outcomeShown (pagesGood e) refl refl))
+unwalked-shown e o =
+    either translatedShown (tableGood e)
+    (either translatedShown (bypass e)
+    (either translatedShown (bypassGood e) (either translatedShown (inBypass e o) refl refl) refl)
+    (either translatedShown (pagesGood e) refl refl))
     refl
+
+pages-shown : (m : List ℕ) (e : TranslationEntry) (d : Direction) (o : ByteAddress) → translatedShown (byPages m e d o .result) ≡ true
+unfolding byPages
+pages-shown m e d o = landed-shown (pageSize e) d o (walkedPage m e (pageOf e o) .found)
+
+-- a refusal carries the reason of the fault, whatever the count
+outcomeOf-shown : (p : PeNumber) (a : ByteAddress) (t : Translated) (n : ℕ) → translatedShown t ≡ true → outcomeShown (outcomeOf p a t n) ≡ true
+unfolding outcomeOf shown
+outcomeOf-shown p a (To x) n h = refl
+outcomeOf-shown p a (Fault r j) n h = h
 
 announced-shown : (i v p b : ℕ) → shown (announced i v p b) ≡ true
 unfolding announced shown
@@ -90,20 +108,20 @@ delivered-shown p a i e =
     either outcomeShown (eqb (e .pe) (p .0))
     (either outcomeShown (ranged e) (announced-shown i (e .server) (e .priority) (e .bits)) refl) refl
 
-msi-shown : (f : Tables) (s : Live) (p : PeNumber) (a : ByteAddress) (i : ℕ) (ok : Bool) → outcomeShown (msi f s p a i ok) ≡ true
+msi-shown : (c : ℕ) (l : List ℕ) (p : PeNumber) (a : ByteAddress) (i : ℕ) (ok : Bool) → outcomeShown (msi c l p a i ok) ≡ true
 unfolding msi shown
-msi-shown f s p a i ok = either outcomeShown (ok && ltb i (f .sizes .interrupts)) (delivered-shown p a i (interrupt s i)) refl
+msi-shown c l p a i ok = either outcomeShown (ok && ltb i c) (delivered-shown p a i (interruptIn l i)) refl
 
 ends-shown : (i : ℕ) (e : Interrupt) → outcomeShown (ends i e) ≡ true
 unfolding ends shown
 ends-shown i e =
     either outcomeShown (ltb (e .bits) 2) refl
-    (either outcomeShown (eqb (e .bits) 2) refl (either outcomeShown (eqb (e .priority) 255) refl refl))
+    (either outcomeShown (eqb (e .bits) 2) refl (either outcomeShown (eqb (e .priority) holding) refl refl))
 
 prioritized-shown : (i n : ℕ) (e : Interrupt) → outcomeShown (prioritized i n e) ≡ true
 unfolding prioritized shown
 prioritized-shown i n e =
-    either outcomeShown (eqb (e .priority) 255 && not (eqb n 255) && eqb (e .bits % 2) 1) (announced-shown i (e .server) n (e .bits / 2 * 2)) refl
+    either outcomeShown (eqb (e .priority) holding && not (eqb n holding) && eqb (e .bits % 2) 1) (announced-shown i (e .server) n (e .bits / 2 * 2)) refl
 
 onGood-shown : (e : Interrupt) (o : Outcome) → outcomeShown o ≡ true → outcomeShown (onGood e o) ≡ true
 unfolding shown
@@ -114,68 +132,82 @@ unfolding accessed shown
 accessed-shown (At n c) p w x h = either shown (mmioStopped w) h refl
 accessed-shown Miss p w x h = h
 
-served-shown : (k : AddressClass) (f : Tables) (s : Live) (p : PeNumber) (d : Direction) (a : ByteAddress) (n v : ℕ) → askedShown (served k f s p d a n v) ≡ true
+byEntry-shown : (e : TranslationEntry) (p : PeNumber) (q : DmaRequest) → checkedShown (byEntry e p q) ≡ true
+unfolding byEntry
+byEntry-shown e p q =
+    either checkedShown (walks e (offset (q .address))) refl
+    (outcomeOf-shown p (q .address) (unwalked e (offset (q .address))) 0 (unwalked-shown e (offset (q .address))))
+
+served-shown : (c : AddressClass) (k : ℕ) (e l : List ℕ) (p : PeNumber) (q : DmaRequest) → checkedShown (served c k e l p q) ≡ true
 unfolding served shown
-served-shown class.Dma f s p d a n v = either askedShown (walks (entry f p (half a)) a) refl (unwalked-shown p (entry f p (half a)) a)
-served-shown class.Msi32 f s p d a n v = msi-shown f s p a (number32 a v) (msiFormed d a n)
-served-shown class.Msi64 f s p d a n v = msi-shown f s p a (number64 a v) (msiFormed d a n)
-served-shown class.Unserved f s p d a n v = refl
+served-shown class.Dma k e l p q = byEntry-shown (entryIn e p (half (q .address))) p q
+served-shown class.Msi32 k e l p q = msi-shown k l p (q .address) _ _
+served-shown class.Msi64 k e l p q = msi-shown k l p (q .address) _ _
+served-shown class.Unserved k e l p q = refl
 
-ask-shown : (f : Tables) (s : Live) (p : PeNumber) (q : Request) → askedShown (ask f s p q) ≡ true
-unfolding ask shown
-ask-shown f s p (Dma r d a n v) =
-    either askedShown (dmaStopped (at (s .state) (stopWord p))) refl (served-shown (classOf a) f s p d a n v)
-ask-shown f s p (Load a w) = accessed-shown (route (f .windows) (f .segments) a) p (at (s .state) (stopWord p)) (Ones (onesOf w)) refl
-ask-shown f s p (Store a w) = accessed-shown (route (f .windows) (f .segments) a) p (at (s .state) (stopWord p)) Drop refl
-ask-shown f s p (Error r) = refl
-ask-shown f s p (Clear k c) = refl
-ask-shown f s p (End i) = onGood-shown (interrupt s i) (ends i (interrupt s i)) (ends-shown i (interrupt s i))
-ask-shown f s p (Priority i n) = onGood-shown (interrupt s i) (prioritized i n (interrupt s i)) (prioritized-shown i n (interrupt s i))
-
-finish-shown : (f : Tables) (m : List ℕ) (p : PeNumber) (x : Asked) → askedShown x ≡ true → outcomeShown (finish f m p x) ≡ true
+finish-shown : (m : List ℕ) (x : Checked) → checkedShown x ≡ true → outcomeShown (finish m x) ≡ true
 unfolding finish
-finish-shown f m p (Ready o) h = h
-finish-shown f m p (Walk d a n) h =
-    arriveAt-shown (pageSize (entry f p (half a))) d p a _ _
+finish-shown m (Kept a) h = h
+finish-shown m (Ready p o) h = h
+finish-shown m (Walk p e q) h =
+    outcomeOf-shown p (q .address) (byPages m e (q .direction) (offset (q .address)) .result) _ (pages-shown m e (q .direction) (offset (q .address)))
 
 -- the refusals that nobody gets
-named-shown : (r : Reason) (z : Sizes) (n : ℕ) → shown (Refuse r 0) ≡ true → ownerShown (named r z n) ≡ true
+named-shown : (r : Reason) (n k : ℕ) → shown (Refuse r 0) ≡ true → ownerShown (named r n k) ≡ true
 unfolding named
-named-shown r z n h = either ownerShown (ltb n (z .pes)) refl h
+named-shown r n k h = either ownerShown (ltb k n) refl h
 
-hit-shown : (f : Tables) (h : Hit) → ownerShown (ofHit f h) ≡ true
+hit-shown : (n : ℕ) (h : Hit) → ownerShown (ofHit n h) ≡ true
 unfolding shown
-hit-shown f (At n c) = named-shown NoWindow (f .sizes) n refl
-hit-shown f Miss = refl
+hit-shown n (At k c) = named-shown NoWindow n k refl
+hit-shown n Miss = refl
 
-requester-shown : (f : Tables) (r : ℕ) → ownerShown (ofRequester f r) ≡ true
+requester-shown : (n c : ℕ) (l : List ℕ) (r : ℕ) → ownerShown (ofRequester n c l r) ≡ true
 unfolding shown
-requester-shown f r = either ownerShown (ltb r (f .sizes .requesters)) (named-shown UnknownRequester (f .sizes) (at (f .requesters) r) refl) refl
+requester-shown n c l r = either ownerShown (ltb r c) (named-shown UnknownRequester n _ refl) refl
 
-interrupt-shown : (f : Tables) (s : Live) (i : ℕ) → ownerShown (ofInterrupt f s i) ≡ true
+interrupt-shown : (n c : ℕ) (l : List ℕ) (i : ℕ) → ownerShown (ofInterrupt n c l i) ≡ true
 unfolding shown
-interrupt-shown f s i = either ownerShown (ltb i (f .sizes .interrupts)) (named-shown BadFirmware (f .sizes) (interrupt s i .pe) refl) refl
+interrupt-shown n c l i = either ownerShown (ltb i c) (named-shown BadFirmware n _ refl) refl
 
-owner-shown : (f : Tables) (s : Live) (q : Request) → ownerShown (owner f s q) ≡ true
-unfolding owner shown
-owner-shown f s (Dma r d a n v) = requester-shown f r
-owner-shown f s (Load a w) = hit-shown f (route (f .windows) (f .segments) a)
-owner-shown f s (Store a w) = hit-shown f (route (f .windows) (f .segments) a)
-owner-shown f s (Error r) = requester-shown f r
-owner-shown f s (Clear p c) = named-shown BadFirmware (f .sizes) p refl
-owner-shown f s (End i) = interrupt-shown f s i
-owner-shown f s (Priority i n) = interrupt-shown f s i
+owner-shown : (z : Sizes) (r w g l : List ℕ) (q : Request) → ownerShown (ownerIn z r w g l q) ≡ true
+unfolding ownerIn shown
+owner-shown z r w g l (Dma q) = requester-shown (z .pes) (z .requesters) r _
+owner-shown z r w g l (Load a n) = hit-shown (z .pes) (route _ _ _)
+owner-shown z r w g l (Store a n) = hit-shown (z .pes) (route _ _ _)
+owner-shown z r w g l (Error q) = requester-shown (z .pes) (z .requesters) r _
+owner-shown z r w g l (Clear p c) = named-shown BadFirmware (z .pes) _ refl
+owner-shown z r w g l (End i) = interrupt-shown (z .pes) (z .interrupts) l _
+owner-shown z r w g l (Priority i n) = interrupt-shown (z .pes) (z .interrupts) l _
+owner-shown z r w g l Unnamed = refl
 
-settled-shown : (f : Tables) (m : List ℕ) (s : Live) (q : Request) (o : Owner) → ownerShown o ≡ true → outcomeShown (settled (finish f m) f s q o) ≡ true
-unfolding settled
-settled-shown f m s q (Of p) h = finish-shown f m p (ask f s p q) (ask-shown f s p q)
-settled-shown f m s q (Nobody r) h = h
+module _ (z : Sizes) (requesters entries windows segments : List ℕ) (s : Live) where
+  ask-shown : (p : PeNumber) (q : Request) → checkedShown (ask z requesters entries windows segments s p q) ≡ true
+  unfolding ask dmaAsked shown
+  ask-shown p (Dma q) =
+      either checkedShown (dmaStopped (at (s .state) (stopWord p))) refl (served-shown (classOf (q .address)) (z .interrupts) entries (s .interrupts) p q)
+  ask-shown p (Load a w) = accessed-shown (route windows segments a) p (at (s .state) (stopWord p)) (Ones (onesOf w)) refl
+  ask-shown p (Store a w) = accessed-shown (route windows segments a) p (at (s .state) (stopWord p)) Drop refl
+  ask-shown p (Error r) = refl
+  ask-shown p (Clear k c) = refl
+  ask-shown p (End i) = onGood-shown (interrupt s i) (ends i (interrupt s i)) (ends-shown i (interrupt s i))
+  ask-shown p (Priority i n) = onGood-shown (interrupt s i) (prioritized i n (interrupt s i)) (prioritized-shown i n (interrupt s i))
+  ask-shown p Unnamed = refl
+
+  asked-shown : (q : Request) (o : Owner) → ownerShown o ≡ true → checkedShown (asked z requesters entries windows segments s q o) ≡ true
+  unfolding asked
+  asked-shown q (Of p) h = ask-shown p q
+  asked-shown q (Nobody r) h = h
+
+  checked-shown : (ok : Bool) (q : Request) → checkedShown (checked z requesters entries windows segments s ok q) ≡ true
+  unfolding checked shown
+  checked-shown ok q =
+      either checkedShown ok
+      (either checkedShown (formed q) (asked-shown q _ (owner-shown z requesters windows segments (s .interrupts) q)) refl) refl
 
 pub answered-shown : (f : Tables) (m : List ℕ) (s : Live) (q : Request) → shown (answered f m s q) ≡ true
-unfolding decidedBy shown
 answered-shown f m s q =
-    either outcomeShown (sized (f .sizes) (lengths f (length m) s))
-    (either outcomeShown (formed q) (settled-shown f m s q (owner f s q) (owner-shown f s q)) refl) refl
+    finish-shown m _ (checked-shown (f .sizes) (f .requesters) (f .entries) (f .windows) (f .segments) s (sized (f .sizes) (lengths f (length m) s)) q)
 
 kept : (f : Tables) (s : Live) (o : Owner) → actBy f o Keep s ≡ s
 unfolding actBy act
@@ -183,9 +215,10 @@ kept f s (Of p) = refl
 kept f s (Nobody r) = refl
 
 module _ (f : Tables) (m : List ℕ) (s : Live) (q : Request) (bad : sized (f .sizes) (lengths f (length m) s) ≡ false) where
-  unsized-decided : decided f m s q ≡ refused TableLength
-  unfolding decidedBy
-  unsized-decided = ap (λ (b : Bool). decidedBy b (finish f m) f s q) bad
+  unsized-decided : decided f m s q ≡ record { answer = Refuse TableLength 0; effect = Keep }
+  unfolding checked finish
+  unsized-decided =
+      ap (λ (b : Bool). finish m (checked (f .sizes) (f .requesters) (f .entries) (f .windows) (f .segments) s b q)) bad
 
   pub unsized-answered : answered f m s q ≡ Refuse TableLength 0
   unsized-answered = ap (λ (o : Outcome). o .answer) unsized-decided

@@ -8,27 +8,30 @@
 --     plain               the bridge with 01's record: a table at 0x2000, one level, table code 1, page code 1
 --     short               a bridge that reason 1 refuses: it lacks a word of the windows
 --     wide n v w g        n PEs and no interrupt; requester 0 is PE 0, requester 1 the last PE
+--     stateRow w r v      the words of a PE in the state; calm: of one that is not stopped and has no record; endpoints n r: n PEs with the words r
 --     live l e            the state l, and interrupt 7 with the words e
 --     idle                nobody stopped; interrupt 7 is PE 2's, with server 5, priority 6, P = Q = 0
---     states l            the state l, with the interrupts of `idle`; endpoint w r v: PE 2's words are w, r and v, the others' 0
+--     states a b c d      the state of four PEs with these words, with the interrupts of `idle`; endpoint w r v: PE 2's words are w, r and v, the
+--                         others' 0
 --     stopped             every PE stopped, with empty records
 --     quiet n             the words of n PEs, all 0, and no interrupt
 --     empty, words a v m  a memory of 2,600 words, all 0; memory m with word v at address a
---     read .. pass        requests and the answer pass, in bare numbers
+--     dma .. pass         requests and the answer pass, in bare numbers
 --     row                 a row; keeps: nothing changes; refuses: a refusal that changes nothing, with no word read; freezes: on `idle`, a refusal
 --                         that freezes PE 2 alone, with its number and value in the error record
 -- Assumes nothing.
 use mathlib.Core.List.{List, [], _∷_, _++_}
-use Prim.Native.Nat.{ℕ, _-_, _*_, _/_}
+use Prim.Native.Nat.{ℕ, zero, suc, _-_, _*_, _/_}
 use lib.ListN.{set, replicate}
 use Rattle.kinds.specs.declared.answer.Answer.{Answer}
 use Rattle.kinds.specs.declared.answer.Answer.the-variants.{Pass, Refuse}
 use Rattle.kinds.specs.declared.answer.Reason.{Reason}
+use Rattle.kinds.specs.declared.request.Direction.{Direction}
 use Rattle.kinds.specs.declared.request.Direction.the-variants.{Read, Write}
 use Rattle.kinds.specs.declared.request.Request.{Request}
 use Rattle.kinds.specs.declared.request.Request.the-variants.{Dma, Load, Store}
 use Rattle.profile.specs.Opened.{opened}
-use Rattle.profile.specs.Tables.{Tables, Live}
+use Rattle.profile.specs.Tables.{Tables, Live, entryWords, recordWords, peerWords, interruptWords, windowWords, segmentCount}
 use Rattle.profile.specs.Step.{answered, after}
 
 pub record Case : Type 0 where
@@ -55,57 +58,67 @@ abbrev pub bridge : (e k peers windows segments : List ℕ) → Tables
 bridge e k v w g = record {
   sizes = record { pes = 4; interrupts = 8; requesters = 8 };
   requesters = 9 ∷ 1 ∷ 9 ∷ 9 ∷ 9 ∷ 2 ∷ 3 ∷ 4 ∷ [];
-  entries = replicate 16 0 ++ (e ++ (k ++ replicate 8 0));
+  entries = replicate (2 * entryWords) 0 ++ (e ++ (k ++ replicate entryWords 0));
   peers = v;
   windows = w;
   segments = g;
 }
 
 abbrev pub none : List ℕ
-none = replicate 4 0
+none = replicate recordWords 0
 
 abbrev pub entered : (e k : List ℕ) → Tables
-entered e k = bridge e k (replicate 16 0) (replicate 67 0) (replicate 256 9)
+entered e k = bridge e k (replicate (4 * peerWords) 0) (replicate windowWords 0) (replicate segmentCount 9)
 
 abbrev pub peered : (v : List ℕ) → Tables
-peered v = bridge none none v (replicate 67 0) (replicate 256 9)
+peered v = bridge none none v (replicate windowWords 0) (replicate segmentCount 9)
 
 abbrev pub windowed : (w g : List ℕ) → Tables
-windowed w g = bridge none none (replicate 16 0) w g
+windowed w g = bridge none none (replicate (4 * peerWords) 0) w g
 
 abbrev pub plain : Tables
 plain = entered (0x2000 ∷ 1 ∷ 1 ∷ 1 ∷ []) none
 
 abbrev pub short : Tables
-short = windowed (replicate 66 0) (replicate 256 9)
+short = windowed (replicate (windowWords - 1) 0) (replicate segmentCount 9)
 
 abbrev pub wide : (pes : ℕ) → (peers windows segments : List ℕ) → Tables
 wide n v w g = record {
   sizes = record { pes = n; interrupts = 0; requesters = 2 };
   requesters = 0 ∷ (n - 1) ∷ [];
-  entries = replicate (n * 8) 0;
+  entries = replicate (n * entryWords) 0;
   peers = v;
   windows = w;
   segments = g;
 }
 
+abbrev pub stateRow : (stop reason value : ℕ) → List ℕ
+stateRow w r v = w ∷ r ∷ v ∷ []
+
+abbrev pub calm : List ℕ
+calm = stateRow 0 0 0
+
+abbrev pub endpoints : (n : ℕ) → (words : List ℕ) → List ℕ
+endpoints zero r = []
+endpoints (suc n) r = r ++ endpoints n r
+
 abbrev pub live : (state interrupt : List ℕ) → Live
-live l e = record { state = l; interrupts = replicate 28 0 ++ e }
+live l e = record { state = l; interrupts = replicate (7 * interruptWords) 0 ++ e }
 
 abbrev pub idle : Live
-idle = live (replicate 12 0) (2 ∷ 5 ∷ 6 ∷ 0 ∷ [])
+idle = live (endpoints 4 calm) (2 ∷ 5 ∷ 6 ∷ 0 ∷ [])
 
-abbrev pub states : List ℕ → Live
-states l = live l (2 ∷ 5 ∷ 6 ∷ 0 ∷ [])
+abbrev pub states : (a b c d : List ℕ) → Live
+states a b c d = live (a ++ b ++ c ++ d) (2 ∷ 5 ∷ 6 ∷ 0 ∷ [])
 
 abbrev pub endpoint : (stop reason value : ℕ) → Live
-endpoint w r v = states (0 ∷ 0 ∷ 0 ∷ 0 ∷ 0 ∷ 0 ∷ w ∷ r ∷ v ∷ 0 ∷ 0 ∷ 0 ∷ [])
+endpoint w r v = states calm calm (stateRow w r v) calm
 
 abbrev pub stopped : Live
-stopped = states (3 ∷ 0 ∷ 0 ∷ 3 ∷ 0 ∷ 0 ∷ 3 ∷ 0 ∷ 0 ∷ 3 ∷ 0 ∷ 0 ∷ [])
+stopped = live (endpoints 4 (stateRow 3 0 0)) (2 ∷ 5 ∷ 6 ∷ 0 ∷ [])
 
 abbrev pub quiet : (pes : ℕ) → Live
-quiet n = record { state = replicate (n * 3) 0; interrupts = [] }
+quiet n = record { state = endpoints n calm; interrupts = [] }
 
 abbrev pub empty : List ℕ
 empty = replicate 2600 0
@@ -113,11 +126,14 @@ empty = replicate 2600 0
 abbrev pub words : (at value : ℕ) → List ℕ → List ℕ
 words a v m = set m (a / 8) v
 
+abbrev pub dma : (requester : ℕ) → Direction → (address length word : ℕ) → Request
+dma r d a n v = Dma (record { requester = r; direction = d; address = record { 0 = a }; length = n; «data» = v })
+
 abbrev pub read : (requester address length : ℕ) → Request
-read r a n = Dma r Read (record { 0 = a }) n 0
+read r a n = dma r Read a n 0
 
 abbrev pub write : (requester address length word : ℕ) → Request
-write r a n v = Dma r Write (record { 0 = a }) n v
+write r a n v = dma r Write a n v
 
 abbrev pub load : (address width : ℕ) → Request
 load a w = Load (record { 0 = a }) w

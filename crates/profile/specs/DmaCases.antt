@@ -11,7 +11,7 @@ use Prim.Native.Nat.{ℕ, _+_, _-_, _*_, _^_}
 use Rattle.kinds.specs.declared.answer.Reason.{Reason}
 use Rattle.kinds.specs.declared.answer.Reason.the-variants.{TableLength, BadRequest, UnknownRequester, DmaStopped, AddressClass, BadEntry, OutsideWindow, MsiRefused, OutsideMemory}
 use Rattle.profile.specs.Tables.{Tables}
-use Rattle.profile.specs.Case.{Case, entered, none, plain, short, idle, endpoint, states, stopped, empty, words, read, write, pass, keeps, refuses, freezes}
+use Rattle.profile.specs.Case.{Case, entered, none, plain, short, idle, endpoint, stateRow, calm, states, stopped, empty, words, read, write, pass, keeps, refuses, freezes}
 
 -- PE 2's first record, with no second one; its second, with no first one
 abbrev pub first : (base levels table page : ℕ) → Tables
@@ -61,7 +61,7 @@ dmaChecks =
     -- the MMIO stop bit alone, the upper bits and the stop bits of others do not stop a DMA
     ∷ keeps plain memory (endpoint 1 0 0) (read 5 0x3ABC 4) (pass 0x12345ABC 2 1)
     ∷ keeps plain memory (endpoint 5 0 0) (read 5 0x3ABC 4) (pass 0x12345ABC 2 1)
-    ∷ keeps plain memory (states (3 ∷ 0 ∷ 0 ∷ 3 ∷ 0 ∷ 0 ∷ 0 ∷ 0 ∷ 0 ∷ 3 ∷ 0 ∷ 0 ∷ [])) (read 5 0x3ABC 4) (pass 0x12345ABC 2 1)
+    ∷ keeps plain memory (states (stateRow 3 0 0) (stateRow 3 0 0) calm (stateRow 3 0 0)) (read 5 0x3ABC 4) (pass 0x12345ABC 2 1)
     ∷ []
 
 unfoldable pub classes : List Case

@@ -3,30 +3,34 @@
 --     entryIn l p h       the first (h = 0) or second (h = 1) record of PE p in the table l of translation entries; entry f p h: in the tables f
 --     offsetBits          59, the bits of an offset; half a, offset a: the bit of the address above them, and its low 59 bits
 --     pageSize e          the page size of page code 1, 5, 13 or 17: 2 ^ (code + 11) bytes
---     pageOf e a          the page of the offset of a, by that size
+--     pageOf e o          the page of offset o, by that size
 --     indexBits e         a table has 2 ^ (code + 8) words
 --     span e              page bits plus levels times index bits
 --     aligned n b         base b is a multiple of the bytes of a table of 2 ^ n words
 --     tableGood e         table code 1 to 31
 --     bypass e            page code 0; bypassGood e: start below end, end at most 2 ^ 35, in units of 16 MiB; inBypass e o: offset o is inside
---     pagesGood e         a known page code, 1 to 5 levels, an aligned base, a span of at most 59
---     walks e a           the entry is good and has pages, and the offset is inside them: the page table is walked
---     unwalked p e a      else: bypass, 6 or 7
+--     pagesGood e         a known page code, 1 to 5 levels, an aligned base, a span of at most 59; pageTests e: these tests
+--     paged e             the entry is good and has pages
+--     walks e o           and offset o is inside them: the page table is walked
+--     small e             a table that can be walked at all: table code at most 31, at most 5 levels, at most 59 bits of all indexes. Every
+--                         entry that walks is so; smallTests e: these tests
+--     unwalked e o        else: bypass, 6 or 7, with no word of memory asked for
 -- Assumes nothing.
 use mathlib.Core.Bool.{Bool, cond, not, _&&_, _||_}
-use mathlib.Core.List.{List}
+use mathlib.Core.List.{List, [], _∷_}
 use Prim.Native.Nat.{ℕ, _+_, _*_, _/_, _%_, _^_}
 use lib.Dec.{leb, ltb, eqb}
 use Rattle.kinds.specs.Number.{pageBits, pageNumber}
-use Rattle.kinds.specs.Outcome.{passed, failed}
+use Rattle.kinds.specs.Tests.{all}
 use Rattle.kinds.specs.Words.{at}
 use Rattle.kinds.specs.declared.answer.Reason.the-variants.{BadEntry, OutsideWindow}
+use Rattle.kinds.specs.declared.lookup.Translated.{Translated}
+use Rattle.kinds.specs.declared.lookup.Translated.the-variants.{To, Fault}
 use Rattle.kinds.specs.declared.number.ByteAddress.{ByteAddress}
 use Rattle.kinds.specs.declared.number.PageNumber.{PageNumber}
 use Rattle.kinds.specs.declared.number.PageSize.{PageSize}
 use Rattle.kinds.specs.declared.number.PageSize.the-variants.{K4, K64, M16, M256}
 use Rattle.kinds.specs.declared.number.PeNumber.{PeNumber}
-use Rattle.kinds.specs.declared.outcome.Outcome.{Outcome}
 use Rattle.kinds.specs.declared.record.TranslationEntry.{TranslationEntry}
 use Rattle.kinds.specs.declared.request.AddressClass.{AddressClass}
 use Rattle.kinds.specs.declared.request.AddressClass.the-variants.{Dma, Msi32, Msi64, Unserved}
@@ -58,10 +62,10 @@ abbrev pub entry : Tables → PeNumber → (half : ℕ) → TranslationEntry
 entry f p h = entryIn (f .entries) p h
 
 unfoldable pub pageSize : TranslationEntry → PageSize
-pageSize e = cond (eqb (e .page) 5) K64 (cond (eqb (e .page) 13) M16 (cond (eqb (e .page) 17) M256 K4))
+pageSize e = cond (eqb (e .page) 1) K4 (cond (eqb (e .page) 5) K64 (cond (eqb (e .page) 13) M16 M256))
 
-abbrev pub pageOf : TranslationEntry → ByteAddress → PageNumber
-pageOf e a = pageNumber (pageSize e) (offset a)
+abbrev pub pageOf : TranslationEntry → (offset : ByteAddress) → PageNumber
+pageOf e o = pageNumber (pageSize e) o
 
 abbrev pub indexBits : TranslationEntry → ℕ
 indexBits e = e .table + 8
@@ -82,22 +86,34 @@ bypass e = eqb (e .page) 0
 unfoldable pub bypassGood : TranslationEntry → Bool
 bypassGood e = ltb (e .base) (e .levels) && leb (e .levels) (2 ^ 35)
 
-unfoldable pub pagesGood : TranslationEntry → Bool
-pagesGood e =
+abbrev pub pageTests : TranslationEntry → List Bool
+pageTests e =
     (eqb (e .page) 1 || eqb (e .page) 5 || eqb (e .page) 13 || eqb (e .page) 17)
-    && leb 1 (e .levels) && leb (e .levels) 5 && aligned (indexBits e) (record { 0 = e .base }) && leb (span e) offsetBits
+    ∷ leb 1 (e .levels) ∷ leb (e .levels) 5 ∷ aligned (indexBits e) (record { 0 = e .base }) ∷ leb (span e) offsetBits ∷ []
 
-unfoldable pub walks : TranslationEntry → ByteAddress → Bool
-walks e a = tableGood e && not (bypass e) && pagesGood e && ltb (offset a .0) (2 ^ span e)
+unfoldable pub pagesGood : TranslationEntry → Bool
+pagesGood e = all (pageTests e)
+
+unfoldable pub paged : TranslationEntry → Bool
+paged e = tableGood e && not (bypass e) && pagesGood e
+
+unfoldable pub walks : TranslationEntry → (offset : ByteAddress) → Bool
+walks e o = paged e && ltb (o .0) (2 ^ span e)
+
+abbrev pub smallTests : TranslationEntry → List Bool
+smallTests e = leb (e .table) 31 ∷ leb (e .levels) 5 ∷ leb (indexBits e * e .levels) offsetBits ∷ []
+
+unfoldable pub small : TranslationEntry → Bool
+small e = all (smallTests e)
 
 -- inside the bypass range, its end not included
-unfoldable pub inBypass : TranslationEntry → ByteAddress → Bool
+unfoldable pub inBypass : TranslationEntry → (offset : ByteAddress) → Bool
 inBypass e o = leb (e .base * 2 ^ 24) (o .0) && ltb (o .0) (e .levels * 2 ^ 24)
 
-unfoldable pub unwalked : PeNumber → TranslationEntry → ByteAddress → Outcome
-unwalked p e a =
+unfoldable pub unwalked : TranslationEntry → (offset : ByteAddress) → Translated
+unwalked e o =
     cond (tableGood e)
     (cond (bypass e)
-    (cond (bypassGood e) (cond (inBypass e (offset a)) (passed p (offset a) 0) (failed OutsideWindow a 0)) (failed BadEntry a 0))
-    (cond (pagesGood e) (failed OutsideWindow a 0) (failed BadEntry a 0)))
-    (failed BadEntry a 0)
+    (cond (bypassGood e) (cond (inBypass e o) (To o) (Fault OutsideWindow 0)) (Fault BadEntry 0))
+    (cond (pagesGood e) (Fault OutsideWindow 0) (Fault BadEntry 0)))
+    (Fault BadEntry 0)

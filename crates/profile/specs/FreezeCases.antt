@@ -5,21 +5,31 @@
 --     wideCases           256 PEs: the words and bits of a peer vector; no interrupt at all
 --     clears              each part alone; 14
 --     freezeCases         all of them
+--     Acting              an effect at a PE, done directly, on tables that reason 1 would refuse too; freezing: of a freeze
+--     bounds              states of more words than N PEs have, and of fewer; a freeze alone
+--     bounds-hold         THE STATEMENT over them: the definition leaves what the row says
 -- Assumes nothing.
-use mathlib.Core.List.{List, [], _∷_, _++_}
-use Prim.Native.Nat.{ℕ, _-_, _*_, _^_}
+use mathlib.Core.Path.{_≡_, refl}
+use mathlib.Core.Bool.{Bool, true, false}
+use mathlib.Core.List.{List, [], _∷_, _++_, map}
+use Prim.Native.Nat.{ℕ, _+_, _-_, _*_, _^_}
 use lib.ListN.{replicate}
 use Rattle.kinds.specs.declared.answer.Answer.the-variants.{Refuse, Done}
-use Rattle.kinds.specs.declared.answer.Reason.the-variants.{TableLength, UnknownRequester, AddressClass, BadEntry, MsiRefused, BadFirmware}
+use Rattle.kinds.specs.declared.answer.Reason.the-variants.{TableLength, UnknownRequester, AddressClass, BadEntry, MsiRefused, ErrorMessage, BadFirmware}
+use Rattle.kinds.specs.declared.number.PeNumber.{PeNumber}
+use Rattle.kinds.specs.declared.outcome.Effect.{Effect}
+use Rattle.kinds.specs.declared.outcome.Effect.the-variants.{Freeze}
 use Rattle.kinds.specs.declared.request.Part.{Part}
 use Rattle.kinds.specs.declared.request.Part.the-variants.{Mmio, Dma, Record}
 use Rattle.kinds.specs.declared.request.Request.the-variants.{Error, Clear}
-use Rattle.profile.specs.Tables.{Tables, Live}
-use Rattle.profile.specs.Case.{Case, peered, short, wide, quiet, idle, endpoint, states, stopped, empty, read, write, row, refuses}
+use Rattle.profile.specs.Opened.{opened}
+use Rattle.profile.specs.Tables.{Tables, Live, peerWords, windowWords, segmentCount}
+use Rattle.profile.specs.Step.{act}
+use Rattle.profile.specs.Case.{Case, peered, short, wide, stateRow, calm, endpoints, quiet, idle, endpoint, states, stopped, empty, read, write, row, refuses}
 
 -- PE 2's peer vector, the others' empty
 abbrev pub vector : (a b c d : ℕ) → Tables
-vector a b c d = peered (replicate 8 0 ++ (a ∷ b ∷ c ∷ d ∷ replicate 4 0))
+vector a b c d = peered (replicate (2 * peerWords) 0 ++ (a ∷ b ∷ c ∷ d ∷ replicate peerWords 0))
 
 abbrev pub alone : Tables
 alone = vector 0 0 0 0
@@ -39,29 +49,29 @@ messages =
     -- obeyed, also when stopped: a peer that had been released is stopped again
     ∷ message alone idle (endpoint 3 12 5)
     ∷ message alone (endpoint 3 8 0x3ABC) (endpoint 3 8 0x3ABC)
-    ∷ message (vector 2 0 0 0) (endpoint 3 8 0x3ABC) (states (0 ∷ 0 ∷ 0 ∷ 3 ∷ 13 ∷ 2 ∷ 3 ∷ 8 ∷ 0x3ABC ∷ 0 ∷ 0 ∷ 0 ∷ []))
+    ∷ message (vector 2 0 0 0) (endpoint 3 8 0x3ABC) (states calm (stateRow 3 13 2) (stateRow 3 8 0x3ABC) calm)
     ∷ []
 
 unfoldable pub peerCases : List Case
 peerCases =
     -- PEs 1 and 3; 0 and 3; PE 2 in its own vector counts as the failing one
-    message (vector 10 0 0 0) idle (states (0 ∷ 0 ∷ 0 ∷ 3 ∷ 13 ∷ 2 ∷ 3 ∷ 12 ∷ 5 ∷ 3 ∷ 13 ∷ 2 ∷ []))
-    ∷ message (vector 9 0 0 0) idle (states (3 ∷ 13 ∷ 2 ∷ 0 ∷ 0 ∷ 0 ∷ 3 ∷ 12 ∷ 5 ∷ 3 ∷ 13 ∷ 2 ∷ []))
+    message (vector 10 0 0 0) idle (states calm (stateRow 3 13 2) (stateRow 3 12 5) (stateRow 3 13 2))
+    ∷ message (vector 9 0 0 0) idle (states (stateRow 3 13 2) calm (stateRow 3 12 5) (stateRow 3 13 2))
     ∷ message (vector 4 0 0 0) idle (endpoint 3 12 5)
-    ∷ message (vector 6 0 0 0) idle (states (0 ∷ 0 ∷ 0 ∷ 3 ∷ 13 ∷ 2 ∷ 3 ∷ 12 ∷ 5 ∷ 0 ∷ 0 ∷ 0 ∷ []))
+    ∷ message (vector 6 0 0 0) idle (states calm (stateRow 3 13 2) (stateRow 3 12 5) calm)
     -- bits for N and above are ignored
     ∷ message (vector (2 ^ 64 - 16) (2 ^ 64 - 1) (2 ^ 64 - 1) (2 ^ 64 - 1)) idle (endpoint 3 12 5)
-    ∷ message (vector (2 ^ 64 - 1) (2 ^ 64 - 1) 0 1) idle (states (3 ∷ 13 ∷ 2 ∷ 3 ∷ 13 ∷ 2 ∷ 3 ∷ 12 ∷ 5 ∷ 3 ∷ 13 ∷ 2 ∷ []))
+    ∷ message (vector (2 ^ 64 - 1) (2 ^ 64 - 1) 0 1) idle (states (stateRow 3 13 2) (stateRow 3 13 2) (stateRow 3 12 5) (stateRow 3 13 2))
     -- a peer of another PE is none; a peer's peers are none
     ∷ message (peered (4 ∷ 0 ∷ 0 ∷ 0 ∷ 4 ∷ 0 ∷ 0 ∷ 0 ∷ 0 ∷ 0 ∷ 0 ∷ 0 ∷ 4 ∷ 0 ∷ 0 ∷ 0 ∷ [])) idle (endpoint 3 12 5)
     ∷ message (peered (8 ∷ 0 ∷ 0 ∷ 0 ∷ 1 ∷ 0 ∷ 0 ∷ 0 ∷ 2 ∷ 0 ∷ 0 ∷ 0 ∷ 4 ∷ 0 ∷ 0 ∷ 0 ∷ [])) idle
-    (states (0 ∷ 0 ∷ 0 ∷ 3 ∷ 13 ∷ 2 ∷ 3 ∷ 12 ∷ 5 ∷ 0 ∷ 0 ∷ 0 ∷ []))
+    (states calm (stateRow 3 13 2) (stateRow 3 12 5) calm)
     -- each refusal that freezes takes the peers with it
     ∷ row (vector 2 0 0 0) empty idle (read 5 0x2000000000000000 4) (Refuse AddressClass 0)
-    (states (0 ∷ 0 ∷ 0 ∷ 3 ∷ 13 ∷ 2 ∷ 3 ∷ 5 ∷ 0x2000000000000000 ∷ 0 ∷ 0 ∷ 0 ∷ []))
-    ∷ row (vector 2 0 0 0) empty idle (read 5 0x3ABC 4) (Refuse BadEntry 0) (states (0 ∷ 0 ∷ 0 ∷ 3 ∷ 13 ∷ 2 ∷ 3 ∷ 6 ∷ 0x3ABC ∷ 0 ∷ 0 ∷ 0 ∷ []))
+    (states calm (stateRow 3 13 2) (stateRow 3 5 0x2000000000000000) calm)
+    ∷ row (vector 2 0 0 0) empty idle (read 5 0x3ABC 4) (Refuse BadEntry 0) (states calm (stateRow 3 13 2) (stateRow 3 6 0x3ABC) calm)
     ∷ row (vector 2 0 0 0) empty idle (read 5 0xFFFF0070 4) (Refuse MsiRefused 0)
-    (states (0 ∷ 0 ∷ 0 ∷ 3 ∷ 13 ∷ 2 ∷ 3 ∷ 9 ∷ 0xFFFF0070 ∷ 0 ∷ 0 ∷ 0 ∷ []))
+    (states calm (stateRow 3 13 2) (stateRow 3 9 0xFFFF0070) calm)
     ∷ []
 
 unfoldable pub records : List Case
@@ -71,19 +81,19 @@ records =
     ∷ message alone (endpoint 1 13 0) (endpoint 3 13 0)
     ∷ message alone (endpoint 0 0 77) (endpoint 3 12 5)
     -- a peer with a record keeps it and is stopped
-    ∷ message (vector 2 0 0 0) (states (0 ∷ 0 ∷ 0 ∷ 0 ∷ 8 ∷ 0x1000 ∷ 0 ∷ 0 ∷ 0 ∷ 0 ∷ 0 ∷ 0 ∷ []))
-    (states (0 ∷ 0 ∷ 0 ∷ 3 ∷ 8 ∷ 0x1000 ∷ 3 ∷ 12 ∷ 5 ∷ 0 ∷ 0 ∷ 0 ∷ []))
+    ∷ message (vector 2 0 0 0) (states calm (stateRow 0 8 0x1000) calm calm)
+    (states calm (stateRow 3 8 0x1000) (stateRow 3 12 5) calm)
     -- the bits of a stop word above the lowest two stay, of the failing PE and of a peer
     ∷ message alone (endpoint 0xFC 0 0) (endpoint 0xFF 12 5)
     ∷ message alone (endpoint (2 ^ 64 - 3) 0 0) (endpoint (2 ^ 64 - 1) 12 5)
-    ∷ message (vector 2 0 0 0) (states (4 ∷ 0 ∷ 0 ∷ 0x1000 ∷ 0 ∷ 0 ∷ 6 ∷ 0 ∷ 0 ∷ 9 ∷ 99 ∷ 9 ∷ []))
-    (states (4 ∷ 0 ∷ 0 ∷ 0x1003 ∷ 13 ∷ 2 ∷ 7 ∷ 12 ∷ 5 ∷ 9 ∷ 99 ∷ 9 ∷ []))
+    ∷ message (vector 2 0 0 0) (states (stateRow 4 0 0) (stateRow 0x1000 0 0) (stateRow 6 0 0) (stateRow 9 99 9))
+    (states (stateRow 4 0 0) (stateRow 0x1003 13 2) (stateRow 7 12 5) (stateRow 9 99 9))
     ∷ []
 
--- the first PE's vector has PEs 63, 64 and 255, the last one's PE 0
+-- the first PE's vector has PEs 1, 63, 64, 129 and 255, the last one's PEs 0, 65, 130 and 195
 abbrev pub far : Tables
 far =
-    wide 256 ((2 ^ 63 ∷ 1 ∷ 0 ∷ 2 ^ 63 ∷ []) ++ replicate (254 * 4) 0 ++ (1 ∷ 0 ∷ 0 ∷ 0 ∷ [])) (replicate 67 0) (replicate 256 0)
+    wide 256 (((2 + 2 ^ 63) ∷ 1 ∷ 2 ∷ 2 ^ 63 ∷ []) ++ replicate (254 * peerWords) 0 ++ (1 ∷ 2 ∷ 4 ∷ 8 ∷ [])) (replicate windowWords 0) (replicate segmentCount 0)
 
 abbrev pub farLeft : List ℕ → Live
 farLeft l = record { state = l; interrupts = [] }
@@ -91,11 +101,14 @@ farLeft l = record { state = l; interrupts = [] }
 unfoldable pub wideCases : List Case
 wideCases =
     row far empty (quiet 256) (Error 0) Done
-    (farLeft ((3 ∷ 12 ∷ 0 ∷ []) ++ replicate (62 * 3) 0 ++ (3 ∷ 13 ∷ 0 ∷ 3 ∷ 13 ∷ 0 ∷ []) ++ replicate (190 * 3) 0 ++ (3 ∷ 13 ∷ 0 ∷ [])))
-    ∷ row far empty (quiet 256) (Error 1) Done (farLeft ((3 ∷ 13 ∷ 255 ∷ []) ++ replicate (254 * 3) 0 ++ (3 ∷ 12 ∷ 1 ∷ [])))
+    (farLeft (stateRow 3 12 0 ++ stateRow 3 13 0 ++ endpoints 61 calm ++ endpoints 2 (stateRow 3 13 0) ++ endpoints 64 calm ++ stateRow 3 13 0
+    ++ endpoints 125 calm ++ stateRow 3 13 0))
+    ∷ row far empty (quiet 256) (Error 1) Done
+    (farLeft (stateRow 3 13 255 ++ endpoints 64 calm ++ stateRow 3 13 255 ++ endpoints 64 calm ++ stateRow 3 13 255 ++ endpoints 64 calm
+    ++ stateRow 3 13 255 ++ endpoints 59 calm ++ stateRow 3 12 1))
     -- no interrupt: number 0 is not below M
-    ∷ row (wide 1 (replicate 4 0) (replicate 67 0) (replicate 256 0)) empty (quiet 1) (write 0 0x1000000000000000 4 0) (Refuse MsiRefused 0)
-    (farLeft (3 ∷ 9 ∷ 0x1000000000000000 ∷ []))
+    ∷ row (wide 1 (replicate peerWords 0) (replicate windowWords 0) (replicate segmentCount 0)) empty (quiet 1) (write 0 0x1000000000000000 4 0) (Refuse MsiRefused 0)
+    (farLeft (stateRow 3 9 0x1000000000000000))
     ∷ []
 
 -- one part of PE 2 cleared
@@ -116,7 +129,7 @@ clears =
     ∷ clear Dma (endpoint 5 0 0) (endpoint 5 0 0)
     ∷ clear Record (endpoint 3 0 9) (endpoint 3 0 0)
     -- no other PE is released
-    ∷ clear Dma stopped (states (3 ∷ 0 ∷ 0 ∷ 3 ∷ 0 ∷ 0 ∷ 1 ∷ 0 ∷ 0 ∷ 3 ∷ 0 ∷ 0 ∷ []))
+    ∷ clear Dma stopped (states (stateRow 3 0 0) (stateRow 3 0 0) (stateRow 1 0 0) (stateRow 3 0 0))
     -- 1 before 14; 14: PE N, and a PE not cut to 16 bits
     ∷ refuses short stopped (Clear 4 Mmio) TableLength
     ∷ refuses alone stopped (Clear 4 Mmio) BadFirmware
@@ -128,3 +141,43 @@ clears =
 unfoldable pub freezeCases : List Case
 unfolding messages peerCases records wideCases clears
 freezeCases = messages ++ peerCases ++ records ++ wideCases ++ clears
+
+-- ---- the effect alone
+
+pub record Acting : Type 0 where
+  pub pes : ℕ
+  pub peers : List ℕ
+  pub pe : PeNumber
+  pub effect : Effect
+  pub met : List ℕ
+  pub left : List ℕ
+
+-- PE 1, in whose vector every bit is set, is frozen by a message of requester 5, with its peers or alone
+abbrev pub freezing : (pes : ℕ) → (peers : Bool) → (met left : List ℕ) → Acting
+freezing n b l k = record {
+  pes = n;
+  peers = replicate peerWords 0 ++ replicate peerWords (2 ^ 64 - 1);
+  pe = record { 0 = 1 };
+  effect = Freeze (record { reason = ErrorMessage; value = 5 }) b;
+  met = l;
+  left = k;
+}
+
+unfoldable pub bounds : List Acting
+bounds =
+    -- the words of a PE more than N, of two, and a word of one
+    freezing 2 true (endpoints 3 calm) (stateRow 3 13 1 ++ stateRow 3 12 5 ++ calm)
+    ∷ freezing 2 true (endpoints 4 (stateRow 4 0 9)) (stateRow 7 13 1 ++ stateRow 7 12 5 ++ endpoints 2 (stateRow 4 0 9))
+    ∷ freezing 2 true (endpoints 2 calm ++ (4 ∷ [])) (stateRow 3 13 1 ++ stateRow 3 12 5 ++ (4 ∷ []))
+    -- the failing PE is N
+    ∷ freezing 1 true (endpoints 2 calm) (stateRow 3 13 1 ++ calm)
+    -- fewer words than N PEs have
+    ∷ freezing 4 true (calm ++ (4 ∷ [])) (stateRow 3 13 1 ++ (7 ∷ []))
+    -- alone, whatever bits are set
+    ∷ freezing 2 false (endpoints 3 calm) (calm ++ stateRow 3 12 5 ++ calm)
+    ∷ freezing 256 false (endpoints 256 calm) (calm ++ stateRow 3 12 5 ++ endpoints 254 calm)
+    ∷ []
+
+pub bounds-hold : map (λ c. act (c .pes) (c .peers) (c .pe) (c .effect) (farLeft (c .met))) bounds ≡ map (λ c. farLeft (c .left)) bounds
+unfolding opened bounds
+bounds-hold = refl

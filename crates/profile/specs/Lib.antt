@@ -16,6 +16,7 @@ pub mod Msi
 pub mod MsiCases
 pub mod Opened
 pub mod Owner
+pub mod OwnerCases
 pub mod OwnerLaws
 pub mod Reasons
 pub mod RequestLaws

@@ -13,7 +13,7 @@ use mathlib.Core.List.{List, [], _∷_, _++_, map}
 use Prim.Native.Nat.{ℕ, _-_, _^_}
 use Rattle.kinds.specs.declared.request.Part.the-variants.{Mmio}
 use Rattle.kinds.specs.declared.request.Request.{Request}
-use Rattle.kinds.specs.declared.request.Request.the-variants.{Error, Clear, End, Priority}
+use Rattle.kinds.specs.declared.request.Request.the-variants.{Error, Clear, End, Priority, Unnamed}
 use Rattle.profile.specs.Tables.{sized}
 use Rattle.profile.specs.Step.{accessFormed, dmaFormed, formed}
 use Rattle.profile.specs.Case.{read, write, load, store}
@@ -114,11 +114,12 @@ forms =
     ∷ asked (store 8 8) true
     ∷ asked (store 16 16) false
     ∷ asked (store 7 2) false
-    -- priorities; all other requests are well formed
+    -- priorities; words that name no request; all other requests are well formed
     ∷ asked (Priority 7 0) true
     ∷ asked (Priority 7 255) true
     ∷ asked (Priority 7 256) false
     ∷ asked (Priority 7 (2 ^ 64 - 1)) false
+    ∷ asked Unnamed false
     ∷ asked (Error (2 ^ 64 - 1)) true
     ∷ asked (Clear (2 ^ 64 - 1) Mmio) true
     ∷ asked (End (2 ^ 64 - 1)) true

@@ -9,7 +9,7 @@
 --     arrived p b         2P + Q afterwards: P set where it is presented, Q set where it is held; announced i v p b: the answer, msi or held
 --     arrives i e         what an arriving MSI comes to
 --     delivered p a i e   an MSI of PE p with number i, whose record is e
---     msi f s p a i ok    an MSI of PE p with number i, of good form or not
+--     msi c l p a i ok    an MSI of PE p with number i, of good form or not, in the interrupts l, of which there are c
 -- Assumes nothing.
 use mathlib.Core.Bool.{Bool, true, false, cond, not, _&&_}
 use mathlib.Core.List.{List}
@@ -18,7 +18,7 @@ use lib.Bits.{bitOr}
 use lib.Dec.{leb, ltb, eqb}
 use lib.ListN.{set}
 use Rattle.kinds.specs.Outcome.{failed}
-use Rattle.kinds.specs.Words.{at}
+use Rattle.kinds.specs.Words.{at, peAt}
 use Rattle.kinds.specs.declared.answer.Answer.{Answer}
 use Rattle.kinds.specs.declared.answer.Answer.the-variants.{Msi, Held}
 use Rattle.kinds.specs.declared.answer.Reason.the-variants.{MsiRefused}
@@ -29,11 +29,11 @@ use Rattle.kinds.specs.declared.outcome.Outcome.{Outcome}
 use Rattle.kinds.specs.declared.record.Interrupt.{Interrupt}
 use Rattle.kinds.specs.declared.request.Direction.{Direction}
 use Rattle.kinds.specs.declared.request.Direction.the-variants.{Read, Write}
-use Rattle.profile.specs.Tables.{Tables, Live, interruptWords}
+use Rattle.profile.specs.Tables.{Live, interruptWords}
 
 abbrev pub interruptIn : List ℕ → ℕ → Interrupt
 interruptIn l i = record {
-  pe = at l (i * interruptWords);
+  pe = peAt l (i * interruptWords);
   server = at l (i * interruptWords + 1);
   priority = at l (i * interruptWords + 2);
   bits = at l (i * interruptWords + 3);
@@ -85,5 +85,5 @@ unfoldable pub delivered : PeNumber → ByteAddress → (i : ℕ) → Interrupt 
 delivered p a i e =
     cond (eqb (e .pe) (p .0)) (cond (ranged e) (arrives i e) (failed MsiRefused a 0)) (failed MsiRefused a 0)
 
-unfoldable pub msi : Tables → Live → PeNumber → ByteAddress → (i : ℕ) → Bool → Outcome
-msi f s p a i ok = cond (ok && ltb i (f .sizes .interrupts)) (delivered p a i (interrupt s i)) (failed MsiRefused a 0)
+unfoldable pub msi : (count : ℕ) → List ℕ → PeNumber → ByteAddress → (i : ℕ) → Bool → Outcome
+msi c l p a i ok = cond (ok && ltb i c) (delivered p a i (interruptIn l i)) (failed MsiRefused a 0)

@@ -1,29 +1,32 @@
 -- MSI delivery, and the firmware requests of an interrupt: P and Q, numbers, and each condition of reasons 9 and 14.
 --     arrivals            an arriving MSI for each P, Q and priority 255 or not
 --     numbers             the number: data ORed with address bits, and what is ignored
+--     bitsOfNumbers       the number itself, bit for bit, in both windows; numbers-hold: THE STATEMENT over them
 --     badMsi              reason 9, each condition alone
 --     endings             the end of an interrupt, for each P, Q and priority 255 or not
 --     priorities          a priority set, from 255 and to 255 or not, for each P and Q
 --     badInterrupts       1 before 2, 2 before 14, and each condition of 14
 --     msiCases            all of them
 -- Assumes nothing.
-use mathlib.Core.List.{List, [], _∷_, _++_}
+use mathlib.Core.Path.{_≡_, refl}
+use mathlib.Core.List.{List, [], _∷_, _++_, map}
 use Prim.Native.Nat.{ℕ, _+_, _-_, _^_}
-use lib.ListN.{replicate}
 use Rattle.kinds.specs.declared.answer.Answer.{Answer}
 use Rattle.kinds.specs.declared.answer.Answer.the-variants.{Msi, Held, Refuse, Done}
 use Rattle.kinds.specs.declared.answer.Reason.the-variants.{TableLength, BadRequest, MsiRefused, BadFirmware}
 use Rattle.kinds.specs.declared.request.Request.{Request}
 use Rattle.kinds.specs.declared.request.Request.the-variants.{End, Priority}
+use Rattle.profile.specs.Opened.{opened}
 use Rattle.profile.specs.Tables.{Live}
-use Rattle.profile.specs.Case.{Case, plain, short, live, idle, stopped, empty, read, write, row, refuses, freezes}
+use Rattle.profile.specs.Msi.{number32, number64}
+use Rattle.profile.specs.Case.{Case, plain, short, stateRow, calm, endpoints, live, idle, stopped, empty, read, write, row, refuses, freezes}
 
 -- interrupt 7 with these words, nobody stopped; the same with PE 2 frozen by reason 9 at address a
 abbrev pub irq : (pe server priority bits : ℕ) → Live
-irq e v p b = live (replicate 12 0) (e ∷ v ∷ p ∷ b ∷ [])
+irq e v p b = live (endpoints 4 calm) (e ∷ v ∷ p ∷ b ∷ [])
 
 abbrev pub irqFrozen : (pe server priority bits a : ℕ) → Live
-irqFrozen e v p b a = live (0 ∷ 0 ∷ 0 ∷ 0 ∷ 0 ∷ 0 ∷ 3 ∷ 9 ∷ a ∷ 0 ∷ 0 ∷ 0 ∷ []) (e ∷ v ∷ p ∷ b ∷ [])
+irqFrozen e v p b a = live (calm ++ calm ++ stateRow 3 9 a ++ calm) (e ∷ v ∷ p ∷ b ∷ [])
 
 -- MSI 7, in the 64-bit window
 abbrev pub seven : Request
@@ -48,8 +51,8 @@ arrivals =
     -- the largest server
     ∷ row plain empty (irq 2 (2 ^ 24 - 1) 6 0) seven (Msi 7 (2 ^ 24 - 1) 6) (irq 2 (2 ^ 24 - 1) 6 2)
     -- the MMIO stop bit does not stop an MSI
-    ∷ row plain empty (live (0 ∷ 0 ∷ 0 ∷ 0 ∷ 0 ∷ 0 ∷ 1 ∷ replicate 5 0) (2 ∷ 5 ∷ 6 ∷ 0 ∷ [])) seven (Msi 7 5 6)
-    (live (0 ∷ 0 ∷ 0 ∷ 0 ∷ 0 ∷ 0 ∷ 1 ∷ replicate 5 0) (2 ∷ 5 ∷ 6 ∷ 2 ∷ []))
+    ∷ row plain empty (live (calm ++ calm ++ stateRow 1 0 0 ++ calm) (2 ∷ 5 ∷ 6 ∷ 0 ∷ [])) seven (Msi 7 5 6)
+    (live (calm ++ calm ++ stateRow 1 0 0 ++ calm) (2 ∷ 5 ∷ 6 ∷ 2 ∷ []))
     ∷ []
 
 -- a write of 4 bytes that is MSI 7, and one that is another number, not below 8
@@ -77,7 +80,40 @@ numbers =
     ∷ isOther 0x1000000000080070 0
     ∷ isOther 0x1000000000010070 0
     ∷ isOther 0xFFFF8070 0
+    ∷ isOther 0xFFFF0070 0x10
+    -- all five bits of data, and the sixth
+    ∷ isOther 0x1000000000000070 31
+    ∷ isOther 0xFFFF0070 31
+    ∷ isSeven 0x1000000000000070 32
+    ∷ isSeven 0xFFFF0070 32
     ∷ []
+
+pub record Numbered : Type 0 where
+  pub gives : ℕ
+  pub says : ℕ
+
+abbrev pub in32 : (address word number : ℕ) → Numbered
+in32 a v n = record { gives = number32 (record { 0 = a }) v; says = n }
+
+abbrev pub in64 : (address word number : ℕ) → Numbered
+in64 a v n = record { gives = number64 (record { 0 = a }) v; says = n }
+
+unfoldable pub bitsOfNumbers : List Numbered
+bitsOfNumbers =
+    -- data: each of the five bits, all of them, the bits above
+    map (λ d. in32 0xFFFF0000 d d) (0 ∷ 1 ∷ 2 ∷ 4 ∷ 8 ∷ 16 ∷ 31 ∷ [])
+    ++ map (λ d. in64 0x1000000000000000 d d) (0 ∷ 1 ∷ 2 ∷ 4 ∷ 8 ∷ 16 ∷ 31 ∷ [])
+    ++ (in32 0xFFFF0000 0xFFFFFFE0 0 ∷ in64 0x1000000000000000 0xFFFFFFE0 0
+    -- the address: below its bits, the first, the last, all, above them
+    ∷ in32 0xFFFF000F 0 0 ∷ in32 0xFFFF0010 0 1 ∷ in32 0xFFFF8000 0 0x800 ∷ in32 0xFFFFFFFF 0 0xFFF
+    ∷ in64 0x100000000000000F 0 0 ∷ in64 0x1000000000000010 0 1 ∷ in64 0x1000000000080000 0 0x8000 ∷ in64 0x1FFFFFFFFFFFFFFF 0 0xFFFF
+    ∷ in64 0x1FFFFFFFFFF00000 0 0
+    -- ORed
+    ∷ in32 0xFFFF5550 0x33 0x557 ∷ in64 0x1000000000055550 0x33 0x5557 ∷ [])
+
+pub numbers-hold : map (λ c. c .gives) bitsOfNumbers ≡ map (λ c. c .says) bitsOfNumbers
+unfolding opened bitsOfNumbers
+numbers-hold = refl
 
 -- MSI 7 meets a record that refuses it
 abbrev pub badRecord : (pe server priority bits : ℕ) → Case
@@ -121,7 +157,7 @@ endings =
     ∷ ends 255 3 Done 1
     ∷ ends 254 3 (Msi 7 5 254) 2
     -- stop bits do not matter
-    ∷ row plain empty (live (replicate 12 3) (2 ∷ 5 ∷ 6 ∷ 3 ∷ [])) (End 7) (Msi 7 5 6) (live (replicate 12 3) (2 ∷ 5 ∷ 6 ∷ 2 ∷ []))
+    ∷ row plain empty (live (endpoints 4 (stateRow 3 3 3)) (2 ∷ 5 ∷ 6 ∷ 3 ∷ [])) (End 7) (Msi 7 5 6) (live (endpoints 4 (stateRow 3 3 3)) (2 ∷ 5 ∷ 6 ∷ 2 ∷ []))
     ∷ []
 
 -- the priority of interrupt 7 set from p to n, at 2P + Q = b
@@ -146,7 +182,7 @@ priorities =
     ∷ sets 6 2 7 Done 2
     ∷ sets 6 3 7 Done 3
     -- stop bits do not matter
-    ∷ row plain empty (live (replicate 12 3) (2 ∷ 5 ∷ 255 ∷ 1 ∷ [])) (Priority 7 6) (Msi 7 5 6) (live (replicate 12 3) (2 ∷ 5 ∷ 6 ∷ 2 ∷ []))
+    ∷ row plain empty (live (endpoints 4 (stateRow 3 3 3)) (2 ∷ 5 ∷ 255 ∷ 1 ∷ [])) (Priority 7 6) (Msi 7 5 6) (live (endpoints 4 (stateRow 3 3 3)) (2 ∷ 5 ∷ 6 ∷ 2 ∷ []))
     ∷ []
 
 -- no good interrupt, for its end and for its priority

@@ -1,5 +1,6 @@
 -- Every answer, every reason and both records, each neighbouring pair of checks, and the limits of each rule, on concrete bridges: one table with one
--- statement over it. The rows stand by kind of request in DmaCases, WalkCases, MsiCases, AccessCases and FreezeCases.
+-- statement over it. The rows stand by kind of request in DmaCases, WalkCases, MsiCases, AccessCases and FreezeCases;
+-- whom a request belongs to is the table of OwnerCases.
 --     reasons             all of them
 --     reasons-hold        THE STATEMENT: the definition gives each row's answer, and leaves what the row says
 -- Assumes nothing.

@@ -1,13 +1,15 @@
--- The laws of one request, on two bridges that agree in what a group sees. Each kind of request is looked at in the laws of `owner`
+-- The laws of one request, on two bridges that agree in what a group sees. Each kind of request is looked at in the laws of `ownerIn`
 -- (OwnerLaws) and of `ask`, once in each; nothing below them depends on the kind.
 --     ask-agrees          a member's request comes to the same on both, as far as no memory is read
+--     checked-agrees      so all checks before the walk give the same
 --     vector-agrees       a PE has the same peer vector on both
---     ask-walks           (Walkable) the page table of a PE is walked only for an address of the DMA class, and by an entry that walks
---     finish-agrees       and to the same by the walk
+--     Walkable, checked-walks     a page table is walked only for an address of the DMA class, by the entry of the owner that the address picks
+--     finish-agrees       and what is left is the same by the walk
 --     decided-agrees      AN OWN REQUEST is answered alike (answered-agrees), and has the same effect
 --     after-agrees        so it keeps what the group sees
 --     after-unseen        ANOTHER'S REQUEST is not seen, whatever effect it has
--- A new kind of request adds a clause to owner-agrees, owner-below, owner-keeps, ask-agrees and ask-walks; one that has an effect of its own
+--     checked-owner       where a check is ready with an outcome or asks for a walk, it names the owner
+-- A new kind of request adds a clause to ownerIn-below, ownerIn-reads, ask-agrees, ask-walks and ask-owner; one that has an effect of its own
 -- adds that effect to the laws of `ActLaws`; one that reads a table adds what it reads of it to `Alike`, `Same` or `Held`.
 -- Assumes nothing.
 use mathlib.Core.Path.{_≡_, refl, ap, _∙_}
@@ -19,9 +21,10 @@ use lib.Dec.{ltb, eqb}
 use lib.ListN.{length}
 use borrow.Author.Tests.{ltb-true, eqb-true}
 use Rattle.kinds.specs.Tests.{by-cases, clash, and-right}
-use Rattle.kinds.specs.Outcome.{refused}
+use Rattle.kinds.specs.Checked.{Checked, Kept, Ready, Walk}
 use Rattle.kinds.specs.Words.{at}
 use Rattle.kinds.specs.declared.answer.Answer.{Answer}
+use Rattle.kinds.specs.declared.answer.Answer.the-variants.{Ones, Drop, Refuse}
 use Rattle.kinds.specs.declared.answer.Reason.the-variants.{DmaStopped}
 use Rattle.kinds.specs.declared.lookup.Hit.{Hit}
 use Rattle.kinds.specs.declared.lookup.Hit.the-variants.{At, Miss}
@@ -32,26 +35,32 @@ use Rattle.kinds.specs.declared.number.PeNumber.{PeNumber}
 use Rattle.kinds.specs.declared.outcome.Effect.{Effect}
 use Rattle.kinds.specs.declared.outcome.Outcome.{Outcome}
 use Rattle.kinds.specs.declared.record.Interrupt.{Interrupt}
+use Rattle.kinds.specs.declared.record.Sizes.{Sizes}
 use Rattle.kinds.specs.declared.record.TranslationEntry.{TranslationEntry}
 use Rattle.kinds.specs.declared.request.AddressClass.the-variants as class
 use Rattle.kinds.specs.declared.request.AddressClass as classes
-use Rattle.kinds.specs.declared.request.Direction.{Direction}
+use Rattle.kinds.specs.declared.request.DmaRequest.{DmaRequest}
 use Rattle.kinds.specs.declared.request.Request.{Request}
-use Rattle.kinds.specs.declared.request.Request.the-variants.{Dma, Load, Store, Error, Clear, End, Priority}
+use Rattle.kinds.specs.declared.request.Request.the-variants.{Dma, Load, Store, Error, Clear, End, Priority, Unnamed}
 use Rattle.profile.specs.Tables.{Tables, Live, named, lengths, sized}
 use Rattle.profile.specs.Freeze.{stopWord, dmaStopped, vector}
-use Rattle.profile.specs.Entry.{classOf, half, entry, pageSize, pageOf, walks, unwalked}
-use Rattle.profile.specs.Walk.{walk, arrive}
+use Rattle.profile.specs.Entry.{classOf, half, offset, entryIn, entry, walks}
+use Rattle.profile.specs.WalkLaws.{pages-is}
 use Rattle.profile.specs.Msi.{interrupt, delivered, msi}
 use Rattle.profile.specs.Firmware.{onGood, ends, prioritized}
-use Rattle.profile.specs.Step.{Asked, Ready, Walk, served, accessed, ask, finish, settled, decidedBy, actBy, decided, answered, after}
-use Rattle.profile.specs.Owner.{ofInterrupt, owner}
+use Rattle.profile.specs.Windows.{route, onesOf}
+use Rattle.profile.specs.Step.{formed, byEntry, served, dmaAsked, accessed, ask, asked, checked, arrived, finish, actBy, checkedOn, decided, answered, after}
+use Rattle.profile.specs.Owner.{ofInterrupt, ownerIn, owner}
 use Rattle.profile.specs.Agree.{owned, belongs, Closed, Same, Alike, Held}
-use Rattle.profile.specs.AgreeLaws.{same-refl, stop-agrees, interrupt-agrees, half-agrees, walk-agrees}
+use Rattle.profile.specs.AgreeLaws.{same-refl, stop-agrees, interrupt-agrees, half-agrees, translation-agrees}
 use Rattle.profile.specs.ActLaws.{act-unseen, act-agrees}
-use Rattle.profile.specs.OwnerLaws.{Below, owner-below, route-agrees, owner-agrees}
+use Rattle.profile.specs.OwnerLaws.{Below, owner-below, owner-agrees}
 
 -- ---- two bridges
+
+-- the request of PE p, on a bridge's tables
+abbrev askOn : Tables → Live → PeNumber → Request → Checked
+askOn f s p q = ask (f .sizes) (f .requesters) (f .entries) (f .windows) (f .segments) s p q
 
 module _ {G : PeNumber → Bool} {f g : Tables} (w : Alike G f g) where
   pub vector-agrees : (p : PeNumber) → vector f p ≡ vector g p
@@ -59,7 +68,7 @@ module _ {G : PeNumber → Bool} {f g : Tables} (w : Alike G f g) where
 
   module _ {s t : Live} (r : Same G (f .sizes .interrupts) s t) where
     -- an interrupt whose firmware requests are the group's
-    group-interrupt : (i : ℕ) → owned G (ofInterrupt f s i) ≡ true → interrupt s i ≡ interrupt t i
+    group-interrupt : (i : ℕ) → owned G (ofInterrupt (f .sizes .pes) (f .sizes .interrupts) (s .interrupts) i) ≡ true → interrupt s i ≡ interrupt t i
     unfolding named
     group-interrupt i u =
         by-cases (ltb i (f .sizes .interrupts))
@@ -75,7 +84,8 @@ module _ {G : PeNumber → Bool} {f g : Tables} (w : Alike G f g) where
         (λ o. ap (delivered p a i) (interrupt-agrees r i h (rw (eqb-true (interrupt s i .pe) (p .0) o) u)))
         (λ o. unfold delivered in rw (o, ← r .interrupt-pe i h, o))
 
-    msi-agrees : (p : PeNumber) → G p ≡ true → (a : ByteAddress) (i : ℕ) (ok : Bool) → msi f s p a i ok ≡ msi g t p a i ok
+    msi-agrees : (p : PeNumber) → G p ≡ true → (a : ByteAddress) (i : ℕ) (ok : Bool)
+        → msi (f .sizes .interrupts) (s .interrupts) p a i ok ≡ msi (g .sizes .interrupts) (t .interrupts) p a i ok
     unfolding msi
     msi-agrees p u a i ok =
         rw (← w .sizes)
@@ -83,13 +93,13 @@ module _ {G : PeNumber → Bool} {f g : Tables} (w : Alike G f g) where
         (λ o. rw o (delivered-agrees p u a i (ltb-true i (f .sizes .interrupts) (and-right ok (ltb i (f .sizes .interrupts)) o))))
         (λ o. rw o))
 
-    served-agrees : (c : classes.AddressClass) (p : PeNumber) → G p ≡ true → (d : Direction) (a : ByteAddress) (n v : ℕ)
-        → served c f s p d a n v ≡ served c g t p d a n v
+    served-agrees : (c : classes.AddressClass) (p : PeNumber) → G p ≡ true → (q : DmaRequest)
+        → served c (f .sizes .interrupts) (f .entries) (s .interrupts) p q ≡ served c (g .sizes .interrupts) (g .entries) (t .interrupts) p q
     unfolding served
-    served-agrees class.Dma p u d a n v = ap (λ (e : TranslationEntry). cond (walks e a) (Walk d a n) (Ready (unwalked p e a))) (half-agrees w p u a)
-    served-agrees class.Msi32 p u d a n v = ap Ready (msi-agrees p u a _ _)
-    served-agrees class.Msi64 p u d a n v = ap Ready (msi-agrees p u a _ _)
-    served-agrees class.Unserved p u d a n v = refl
+    served-agrees class.Dma p u q = ap (λ (e : TranslationEntry). byEntry e p q) (half-agrees w p u (q .address))
+    served-agrees class.Msi32 p u q = ap (Ready p) (msi-agrees p u (q .address) _ _)
+    served-agrees class.Msi64 p u q = ap (Ready p) (msi-agrees p u (q .address) _ _)
+    served-agrees class.Unserved p u q = refl
 
     -- one stop bit of a member
     dma-bit-agrees : (p : PeNumber) → G p ≡ true → at (s .state) (stopWord p) / 2 % 2 ≡ at (t .state) (stopWord p) / 2 % 2
@@ -104,76 +114,107 @@ module _ {G : PeNumber → Bool} {f g : Tables} (w : Alike G f g) where
     accessed-agrees p u (At n c) stopped = rw (mmio-bit-agrees p u)
     accessed-agrees p u Miss stopped = refl
 
-    pub ask-agrees : (q : Request) → belongs G f s q ≡ true → (p : PeNumber) → G p ≡ true → ask f s p q ≡ ask g t p q
-    unfolding ask owner
-    ask-agrees (Dma n d a l v) o p u =
-        rw (dma-bit-agrees p u) (ap (cond (dmaStopped (at (t .state) (stopWord p))) (Ready (refused DmaStopped))) (served-agrees (classOf a) p u d a l v))
-    ask-agrees (Load a n) o p u = rw (← route-agrees w a, accessed-agrees p u)
-    ask-agrees (Store a n) o p u = rw (← route-agrees w a, accessed-agrees p u)
+    access-agrees : (p : PeNumber) → G p ≡ true → (a : ByteAddress) (stopped : Answer)
+        → Kept (accessed (route (f .windows) (f .segments) a) p (at (s .state) (stopWord p)) stopped)
+        ≡ Kept (accessed (route (g .windows) (g .segments) a) p (at (t .state) (stopWord p)) stopped)
+    access-agrees p u a stopped = rw (← w .windows, ← w .segments, accessed-agrees p u)
+
+    pub ask-agrees : (q : Request) → belongs G f s q ≡ true → (p : PeNumber) → G p ≡ true → askOn f s p q ≡ askOn g t p q
+    unfolding ask ownerIn dmaAsked
+    ask-agrees (Dma q) o p u =
+        rw (dma-bit-agrees p u)
+        (ap (cond (dmaStopped (at (t .state) (stopWord p))) (Kept (Refuse DmaStopped 0))) (served-agrees (classOf (q .address)) p u q))
+    ask-agrees (Load a n) o p u = access-agrees p u a (Ones (onesOf n))
+    ask-agrees (Store a n) o p u = access-agrees p u a Drop
     ask-agrees (Error n) o p u = refl
     ask-agrees (Clear k c) o p u = refl
-    ask-agrees (End i) o p u = ap (λ (e : Interrupt). Ready (onGood e (ends i e))) (group-interrupt i o)
-    ask-agrees (Priority i n) o p u = ap (λ (e : Interrupt). Ready (onGood e (prioritized i n e))) (group-interrupt i o)
+    ask-agrees (End i) o p u = ap (λ (e : Interrupt). Ready p (onGood e (ends i e))) (group-interrupt i o)
+    ask-agrees (Priority i n) o p u = ap (λ (e : Interrupt). Ready p (onGood e (prioritized i n e))) (group-interrupt i o)
+    ask-agrees Unnamed o p u = refl
 
-    sized-agrees : (n : ℕ) → sized (f .sizes) (lengths f n s) ≡ sized (g .sizes) (lengths g n t)
-    unfolding sized
+    asked-agrees : (q : Request) → belongs G f s q ≡ true → (o : Owner) → owned G o ≡ true
+        → asked (f .sizes) (f .requesters) (f .entries) (f .windows) (f .segments) s q o
+        ≡ asked (g .sizes) (g .requesters) (g .entries) (g .windows) (g .segments) t q o
+    unfolding asked
+    asked-agrees q b (Of p) u = ask-agrees q b p u
+    asked-agrees q b (Nobody x) u = clash u refl
+
+    pub sized-agrees : (n : ℕ) → sized (f .sizes) (lengths f n s) ≡ sized (g .sizes) (lengths g n t)
     sized-agrees n =
         rw (w .sizes, w .requesters, w .entries-length, w .peers, w .windows, w .segments, r .state-length, r .interrupts-length)
+
+    pub checked-agrees : (n : ℕ) (q : Request) → belongs G f s q ≡ true → checkedOn f n s q ≡ checkedOn g n t q
+    unfolding checked
+    checked-agrees n q b = rw (sized-agrees n, ← owner-agrees w r q, asked-agrees q b (owner f s q) b)
 
 -- ---- a walk
 
 -- a walk that is asked for reads words that `Reads` has
-abbrev pub Walkable : Tables → PeNumber → Asked → Type 0
-Walkable f p (Ready o) = Unit {0}
-Walkable f p (Walk d a n) = (classOf a ≡ class.Dma) × (walks (entry f p (half a)) a ≡ true)
+abbrev pub Walkable : Tables → PeNumber → Checked → Type 0
+Walkable f k (Kept a) = Unit {0}
+Walkable f k (Ready p o) = Unit {0}
+Walkable f k (Walk p e q) =
+    (p ≡ k) × (e ≡ entry f k (half (q .address))) × (classOf (q .address) ≡ class.Dma) × (walks (entry f k (half (q .address))) (offset (q .address)) ≡ true)
 
-served-walks : (c : classes.AddressClass) (f : Tables) (s : Live) (p : PeNumber) (d : Direction) (a : ByteAddress) (n v : ℕ)
-    → classOf a ≡ c → Walkable f p (served c f s p d a n v)
-unfolding served
-served-walks class.Dma f s p d a n v c = by-cases (walks (entry f p (half a)) a) (λ o. rw o (c, o)) (λ o. rw o tt)
-served-walks class.Msi32 f s p d a n v c = tt
-served-walks class.Msi64 f s p d a n v c = tt
-served-walks class.Unserved f s p d a n v c = tt
+served-walks : (c : classes.AddressClass) (f : Tables) (s : Live) (p : PeNumber) (q : DmaRequest) → classOf (q .address) ≡ c
+    → Walkable f p (served c (f .sizes .interrupts) (f .entries) (s .interrupts) p q)
+unfolding served byEntry
+served-walks class.Dma f s p q c =
+    by-cases (walks (entry f p (half (q .address))) (offset (q .address))) (λ o. rw o (refl, refl, c, o)) (λ o. rw o tt)
+served-walks class.Msi32 f s p q c = tt
+served-walks class.Msi64 f s p q c = tt
+served-walks class.Unserved f s p q c = tt
 
-pub ask-walks : (f : Tables) (s : Live) (p : PeNumber) (q : Request) → Walkable f p (ask f s p q)
-unfolding ask
-ask-walks f s p (Dma r d a n v) =
-    by-cases (dmaStopped (at (s .state) (stopWord p))) (λ o. rw o tt) (λ o. rw o (served-walks (classOf a) f s p d a n v refl))
+ask-walks : (f : Tables) (s : Live) (p : PeNumber) (q : Request) → Walkable f p (askOn f s p q)
+unfolding ask dmaAsked
+ask-walks f s p (Dma q) =
+    by-cases (dmaStopped (at (s .state) (stopWord p))) (λ o. rw o tt) (λ o. rw o (served-walks (classOf (q .address)) f s p q refl))
 ask-walks f s p (Load a w) = tt
 ask-walks f s p (Store a w) = tt
 ask-walks f s p (Error r) = tt
 ask-walks f s p (Clear q c) = tt
 ask-walks f s p (End i) = tt
 ask-walks f s p (Priority i n) = tt
+ask-walks f s p Unnamed = tt
+
+pub checked-walks : (f : Tables) (n : ℕ) (s : Live) (q : Request) (p : PeNumber) → owner f s q ≡ Of p → Walkable f p (checkedOn f n s q)
+unfolding checked asked
+checked-walks f n s q p h =
+    by-cases (sized (f .sizes) (lengths f n s))
+    (λ o. rw o (by-cases (formed q) (λ t. rw (t, h) (ask-walks f s p q)) (λ t. rw t tt)))
+    (λ o. rw o tt)
 
 -- ---- two bridges and their memories
 
 module _ {G : PeNumber → Bool} {f g : Tables} (w : Alike G f g) where
   module _ {m n : List ℕ} (h : Held G f m n) where
-    pub finish-agrees : (p : PeNumber) → G p ≡ true → (x : Asked) → Walkable f p x → finish f m p x ≡ finish g n p x
+    pub finish-agrees : (p : PeNumber) → G p ≡ true → p .0 < f .sizes .pes → (x : Checked) → Walkable f p x → finish m x ≡ finish n x
     unfolding finish
-    finish-agrees p u (Ready o) k = refl
-    finish-agrees p u (Walk d a l) k =
-        rw (walk-agrees h p u a (k .0) (k .1)) (ap (λ (e : TranslationEntry). arrive (pageSize e) d p a (walk n e (pageOf e a))) (half-agrees w p u a))
+    finish-agrees p u b (Kept a) k = refl
+    finish-agrees p u b (Ready k o) i = refl
+    finish-agrees p u b (Walk j e q) k =
+        let a = q .address in
+        let x = entry f p (half a) in
+        rw (k .0, k .1, pages-is m x (offset a) (k .3) (q .direction), pages-is n x (offset a) (k .3) (q .direction))
+        (ap (arrived p a) (translation-agrees h p u b a (k .2) (q .direction)))
 
     module _ {s t : Live} (r : Same G (f .sizes .interrupts) s t) where
-      settled-agrees : (q : Request) → belongs G f s q ≡ true → (o : Owner) → owned G o ≡ true
-          → settled (finish f m) f s q o ≡ settled (finish g n) g t q o
-      unfolding settled
-      settled-agrees q b (Of p) u = finish-agrees p u (ask f s p q) (ask-walks f s p q) ∙ ap (finish g n p) (ask-agrees w r q b p u)
-      settled-agrees q b (Nobody x) u = clash u refl
+      owned-agrees : (q : Request) (o : Owner) → owner f s q ≡ o → owned G o ≡ true → Below (f .sizes .pes) o
+          → finish m (checkedOn f (length n) s q) ≡ finish n (checkedOn f (length n) s q)
+      owned-agrees q (Of p) e u b = finish-agrees p u b (checkedOn f (length n) s q) (checked-walks f (length n) s q p e)
+      owned-agrees q (Nobody x) e u b = clash u refl
 
       pub decided-agrees : (q : Request) → belongs G f s q ≡ true → decided f m s q ≡ decided g n t q
-      unfolding decidedBy
       decided-agrees q b =
-          rw (← owner-agrees w r q, h .memory-length, sized-agrees w r (length n), settled-agrees q b (owner f s q) b)
+          rw (h .memory-length)
+          (owned-agrees q (owner f s q) refl b (owner-below f s q) ∙ ap (finish n) (checked-agrees w r (length n) q b))
 
       pub answered-agrees : (q : Request) → belongs G f s q ≡ true → answered f m s q ≡ answered g n t q
       answered-agrees q b = ap (λ (o : Outcome). o .answer) (decided-agrees q b)
 
       acted-agrees : (o : Owner) → owned G o ≡ true → (e : Effect) → Same G (f .sizes .interrupts) (actBy f o e s) (actBy g o e t)
       unfolding actBy
-      acted-agrees (Of p) u e = act-agrees r f g p u (vector-agrees w p) e
+      acted-agrees (Of p) u e = rw (← w .sizes, ← w .peers) (act-agrees r (f .sizes .pes) (f .peers) p u e)
       acted-agrees (Nobody x) u e = clash u refl
 
       pub after-agrees : (q : Request) → belongs G f s q ≡ true → Same G (f .sizes .interrupts) (after f m s q) (after g n t q)
@@ -185,8 +226,46 @@ module _ {G : PeNumber → Bool} {f : Tables} (c : Closed G f) where
   -- whatever effect it has
   acted-unseen : (n : ℕ) (s : Live) (o : Owner) → Below (f .sizes .pes) o → owned G o ≡ false → (e : Effect) → Same G n s (actBy f o e s)
   unfolding actBy
-  acted-unseen n s (Of p) h out e = act-unseen f p out (λ k g. c .unlisted p k h out g) s e
+  acted-unseen n s (Of p) h out e = act-unseen (f .sizes .pes) (f .peers) p out (λ k b g. c .unlisted p k h b out g) s e
   acted-unseen n s (Nobody r) h out e = same-refl s
 
   pub after-unseen : (n : ℕ) (s : Live) (q : Request) → belongs G f s q ≡ false → (e : Effect) → Same G n s (actBy f (owner f s q) e s)
   after-unseen n s q out e = acted-unseen n s (owner f s q) (owner-below f s q) out e
+
+-- ---- the owner in what was checked
+
+-- the PE at which the effect is done, where one is
+abbrev pub Placed : Owner → Checked → Type 0
+Placed o (Kept a) = Unit {0}
+Placed o (Ready p x) = o ≡ Of p
+Placed o (Walk p e q) = o ≡ Of p
+
+module _ (z : Sizes) (requesters entries windows segments : List ℕ) (s : Live) where
+  served-owner : (c : classes.AddressClass) (p : PeNumber) (q : DmaRequest) → Placed (Of p) (served c (z .interrupts) entries (s .interrupts) p q)
+  unfolding served byEntry
+  served-owner class.Dma p q = by-cases (walks (entryIn entries p (half (q .address))) (offset (q .address))) (λ o. rw o refl) (λ o. rw o refl)
+  served-owner class.Msi32 p q = refl
+  served-owner class.Msi64 p q = refl
+  served-owner class.Unserved p q = refl
+
+  ask-owner : (p : PeNumber) (q : Request) → Placed (Of p) (ask z requesters entries windows segments s p q)
+  unfolding ask dmaAsked
+  ask-owner p (Dma q) = by-cases (dmaStopped (at (s .state) (stopWord p))) (λ o. rw o tt) (λ o. rw o (served-owner (classOf (q .address)) p q))
+  ask-owner p (Load a w) = tt
+  ask-owner p (Store a w) = tt
+  ask-owner p (Error r) = refl
+  ask-owner p (Clear q c) = refl
+  ask-owner p (End i) = refl
+  ask-owner p (Priority i n) = refl
+  ask-owner p Unnamed = tt
+
+  asked-owner : (q : Request) (o : Owner) → Placed o (asked z requesters entries windows segments s q o)
+  unfolding asked
+  asked-owner q (Of p) = ask-owner p q
+  asked-owner q (Nobody r) = tt
+
+  pub checked-owner : (ok : Bool) (q : Request)
+      → Placed (ownerIn z requesters windows segments (s .interrupts) q) (checked z requesters entries windows segments s ok q)
+  unfolding checked
+  checked-owner false q = tt
+  checked-owner true q = by-cases (formed q) (λ o. rw o (asked-owner q _)) (λ o. rw o tt)

@@ -1,45 +1,55 @@
 -- One request, from its checks to what it leaves: 01, the order of checks of each kind of request.
---     formed q            not reason 2: it depends on the request alone; dmaFormed a n, accessFormed a w: of a DMA, of a load or store
---     ask f s p q         what the request of PE p comes to, as far as no memory is read
---     Asked               an outcome, or that the page table is walked
---     served c ..         what a DMA of a PE that is not stopped comes to, by the class c of its address; accessed h p w d: the answer to a load or store
---     finish f m p x      what it comes to by a walk: the only reader of memory
---     act f p e s         effect e at PE p: it writes, and decides nothing; actBy f o e s: at the owner o, and none where it is nobody
---     decided f m s q     answer and effect: reason 1, then 2, then the refusal that nobody gets (3, 10 or 14), then the rest;
---                         decidedBy, settled: the same with reason 1 tested, and of a well formed request by its owner
+--     formed q            not reason 2: it depends on the request alone, and words that name no request are never formed; dmaFormed a n,
+--                         accessFormed a w: of a DMA, of a load or store
+--     outcomeOf p a t n   the outcome of a DMA of PE p by a translation t with n words read: a pass, or the refusal of a fault, which freezes
+--     byEntry e p q       a DMA of PE p by the entry e that its address picks
+--     served c k e l p q  a DMA of a PE that is not stopped, by the class c of its address; e are the translation entries, l the interrupts, k is M
+--     dmaAsked k e l w p q    a DMA of PE p whose stop word is w
+--     accessed h p w d    the answer to a load or store of PE p by its window h and its stop word w; d is that of a PE that is MMIO stopped
+--     ask p q             what the request q of PE p comes to, as far as no memory is read; asked q o: by its owner o
+--     checked ok .. q     ALL CHECKS BEFORE THE WALK: reason 1 (not ok), then 2, then the refusal that nobody gets (3, 10 or 14), then the rest
+--     finish m x          what is left: the walk, the only reader of memory; arrived p a t: the outcome of a DMA by a translation and its words
+--     act n v p e s       effect e at PE p, n being N and v the peers: it writes, and decides nothing; actBy f o e s: at the owner o, and none
+--                         where it is nobody
+--     checkedOn f n s q   the checks on a bridge's tables, n being the length of memory
+--     decided f m s q     answer and effect
 --     answered f m s q    the answer
 --     after f m s q       state and interrupts afterwards
 -- Assumes nothing.
-use mathlib.Core.Bool.{Bool, true, cond, _&&_, _||_}
+use mathlib.Core.Bool.{Bool, true, false, cond, _&&_, _||_}
 use mathlib.Core.List.{List}
 use Prim.Native.Nat.{ℕ, _+_, _%_}
 use lib.Dec.{leb, eqb}
 use lib.ListN.{length}
-use Rattle.kinds.specs.Answer.{reasonNumber}
-use Rattle.kinds.specs.Outcome.{refused, failed, done}
+use Rattle.kinds.specs.Checked.{Checked, Kept, Ready, Walk}
+use Rattle.kinds.specs.Outcome.{kept, passed, failed, done}
 use Rattle.kinds.specs.Words.{at}
 use Rattle.kinds.specs.declared.answer.Answer.{Answer}
-use Rattle.kinds.specs.declared.answer.Answer.the-variants.{Pass, Ones, Drop}
+use Rattle.kinds.specs.declared.answer.Answer.the-variants.{Pass, Ones, Drop, Refuse}
 use Rattle.kinds.specs.declared.answer.Reason.the-variants.{TableLength, BadRequest, DmaStopped, AddressClass, ErrorMessage}
 use Rattle.kinds.specs.declared.lookup.Hit.{Hit}
 use Rattle.kinds.specs.declared.lookup.Hit.the-variants.{At, Miss}
 use Rattle.kinds.specs.declared.lookup.Owner.{Owner}
 use Rattle.kinds.specs.declared.lookup.Owner.the-variants.{Of, Nobody}
+use Rattle.kinds.specs.declared.lookup.Translated.{Translated}
+use Rattle.kinds.specs.declared.lookup.Translated.the-variants.{To, Fault}
 use Rattle.kinds.specs.declared.number.ByteAddress.{ByteAddress}
 use Rattle.kinds.specs.declared.number.PeNumber.{PeNumber}
 use Rattle.kinds.specs.declared.outcome.Effect.{Effect}
 use Rattle.kinds.specs.declared.outcome.Effect.the-variants.{Keep, Freeze, Release, Interrupt}
 use Rattle.kinds.specs.declared.outcome.Outcome.{Outcome}
+use Rattle.kinds.specs.declared.record.Sizes.{Sizes}
+use Rattle.kinds.specs.declared.record.TranslationEntry.{TranslationEntry}
 use Rattle.kinds.specs.declared.request.AddressClass.the-variants as class
 use Rattle.kinds.specs.declared.request.AddressClass as classes
-use Rattle.kinds.specs.declared.request.Direction.{Direction}
+use Rattle.kinds.specs.declared.request.DmaRequest.{DmaRequest}
 use Rattle.kinds.specs.declared.request.Request.{Request}
-use Rattle.kinds.specs.declared.request.Request.the-variants.{Dma, Load, Store, Error, Clear, End, Priority}
+use Rattle.kinds.specs.declared.request.Request.the-variants.{Dma, Load, Store, Error, Clear, End, Priority, Unnamed}
 use Rattle.profile.specs.Tables.{Tables, Live, lengths, sized}
-use Rattle.profile.specs.Owner.{owner}
-use Rattle.profile.specs.Freeze.{stopWord, mmioStopped, dmaStopped, vector, froze, released}
-use Rattle.profile.specs.Entry.{classOf, half, entry, pageSize, pageOf, walks, unwalked}
-use Rattle.profile.specs.Walk.{walk, arrive}
+use Rattle.profile.specs.Owner.{ownerIn, owner}
+use Rattle.profile.specs.Freeze.{stopWord, mmioStopped, dmaStopped, taken, froze, released}
+use Rattle.profile.specs.Entry.{classOf, half, offset, entryIn, walks, unwalked}
+use Rattle.profile.specs.Walk.{Translation, byPages}
 use Rattle.profile.specs.Msi.{holding, interrupt, stored, number32, number64, msiFormed, msi}
 use Rattle.profile.specs.Firmware.{onGood, ends, prioritized}
 use Rattle.profile.specs.Windows.{route, onesOf}
@@ -53,69 +63,84 @@ unfoldable pub dmaFormed : ByteAddress → (length : ℕ) → Bool
 dmaFormed a n = leb 1 n && leb n 4096 && leb (a .0 % 4096 + n) 4096
 
 unfoldable pub formed : Request → Bool
-formed (Dma r d a n v) = dmaFormed a n
+formed (Dma q) = dmaFormed (q .address) (q .length)
 formed (Load a w) = accessFormed a w
 formed (Store a w) = accessFormed a w
 formed (Error r) = true
 formed (Clear p c) = true
 formed (End i) = true
 formed (Priority i n) = leb n holding
+formed Unnamed = false
 
--- all that is known of a request before memory is read: its outcome, or that the page table of its PE is walked
-pub data Asked : Type 0 where
-  Ready : Outcome → Asked
-  Walk : Direction → ByteAddress → (length : ℕ) → Asked
+unfoldable pub outcomeOf : PeNumber → ByteAddress → Translated → (words : ℕ) → Outcome
+outcomeOf p a (To x) n = passed p x n
+outcomeOf p a (Fault r j) n = failed r a n
 
--- a DMA of a PE that is not stopped, by the class of its address
-unfoldable pub served : classes.AddressClass → Tables → Live → PeNumber → Direction → ByteAddress → (length word : ℕ) → Asked
-served class.Dma f s p d a n v =
-    cond (walks (entry f p (half a)) a) (Walk d a n) (Ready (unwalked p (entry f p (half a)) a))
-served class.Msi32 f s p d a n v = Ready (msi f s p a (number32 a v) (msiFormed d a n))
-served class.Msi64 f s p d a n v = Ready (msi f s p a (number64 a v) (msiFormed d a n))
-served class.Unserved f s p d a n v = Ready (failed AddressClass a 0)
+unfoldable pub byEntry : TranslationEntry → PeNumber → DmaRequest → Checked
+byEntry e p q =
+    cond (walks e (offset (q .address))) (Walk p e q) (Ready p (outcomeOf p (q .address) (unwalked e (offset (q .address))) 0))
 
--- a load or store of PE p, by its window and its stop word; `stopped` is its answer where the PE is MMIO stopped. One with no window has no PE
+unfoldable pub served : classes.AddressClass → (count : ℕ) → (entries interrupts : List ℕ) → PeNumber → DmaRequest → Checked
+served class.Dma k e l p q = byEntry (entryIn e p (half (q .address))) p q
+served class.Msi32 k e l p q =
+    Ready p (msi k l p (q .address) (number32 (q .address) (q .«data»)) (msiFormed (q .direction) (q .address) (q .length)))
+served class.Msi64 k e l p q =
+    Ready p (msi k l p (q .address) (number64 (q .address) (q .«data»)) (msiFormed (q .direction) (q .address) (q .length)))
+served class.Unserved k e l p q = Ready p (failed AddressClass (q .address) 0)
+
+unfoldable pub dmaAsked : (count : ℕ) → (entries interrupts : List ℕ) → (stop : ℕ) → PeNumber → DmaRequest → Checked
+dmaAsked k e l w p q = cond (dmaStopped w) (Kept (Refuse DmaStopped 0)) (served (classOf (q .address)) k e l p q)
+
+-- a load or store with no window has no PE
 unfoldable pub accessed : Hit → PeNumber → (stop : ℕ) → Answer → Answer
 accessed (At n c) p w stopped = cond (mmioStopped w) stopped (Pass c p 0)
 accessed Miss p w stopped = stopped
 
-unfoldable pub ask : Tables → Live → PeNumber → Request → Asked
-ask f s p (Dma r d a n v) =
-    cond (dmaStopped (at (s .state) (stopWord p))) (Ready (refused DmaStopped)) (served (classOf a) f s p d a n v)
-ask f s p (Load a w) =
-    Ready (record { answer = accessed (route (f .windows) (f .segments) a) p (at (s .state) (stopWord p)) (Ones (onesOf w)); effect = Keep })
-ask f s p (Store a w) =
-    Ready (record { answer = accessed (route (f .windows) (f .segments) a) p (at (s .state) (stopWord p)) Drop; effect = Keep })
-ask f s p (Error r) = Ready (done (Freeze ErrorMessage r))
-ask f s p (Clear q c) = Ready (done (Release c))
-ask f s p (End i) = Ready (onGood (interrupt s i) (ends i (interrupt s i)))
-ask f s p (Priority i n) = Ready (onGood (interrupt s i) (prioritized i n (interrupt s i)))
+-- N, M and R, the tables that are read before the walk, and what is written
+module _ (z : Sizes) (requesters entries windows segments : List ℕ) (s : Live) where
+  unfoldable pub ask : PeNumber → Request → Checked
+  ask p (Dma q) = dmaAsked (z .interrupts) entries (s .interrupts) (at (s .state) (stopWord p)) p q
+  ask p (Load a w) = Kept (accessed (route windows segments a) p (at (s .state) (stopWord p)) (Ones (onesOf w)))
+  ask p (Store a w) = Kept (accessed (route windows segments a) p (at (s .state) (stopWord p)) Drop)
+  ask p (Error r) = Ready p (done (Freeze (record { reason = ErrorMessage; value = r }) true))
+  ask p (Clear q c) = Ready p (done (Release c))
+  ask p (End i) = Ready p (onGood (interrupt s i) (ends i (interrupt s i)))
+  ask p (Priority i n) = Ready p (onGood (interrupt s i) (prioritized i n (interrupt s i)))
+  ask p Unnamed = Kept (Refuse BadRequest 0)
 
-unfoldable pub finish : Tables → List ℕ → PeNumber → Asked → Outcome
-finish f m p (Ready o) = o
-finish f m p (Walk d a n) =
-    arrive (pageSize (entry f p (half a))) d p a (walk m (entry f p (half a)) (pageOf (entry f p (half a)) a))
+  unfoldable pub asked : Request → Owner → Checked
+  asked q (Of p) = ask p q
+  asked q (Nobody r) = Kept (Refuse r 0)
 
-unfoldable pub act : Tables → PeNumber → Effect → Live → Live
-act f p Keep s = s
-act f p (Freeze r v) s = record { state = froze (vector f p) p (reasonNumber r) v (s .state); interrupts = s .interrupts }
-act f p (Release c) s = record { state = released c p (s .state); interrupts = s .interrupts }
-act f p (Interrupt i n b) s = record { state = s .state; interrupts = stored p i n b (s .interrupts) }
+  unfoldable pub checked : (ok : Bool) → Request → Checked
+  checked ok q =
+      cond ok
+      (cond (formed q) (asked q (ownerIn z requesters windows segments (s .interrupts) q)) (Kept (Refuse BadRequest 0)))
+      (Kept (Refuse TableLength 0))
 
--- by the owner, where `fin` finishes what was asked
-unfoldable pub settled : ((p : PeNumber) → Asked → Outcome) → Tables → Live → Request → Owner → Outcome
-settled fin f s q (Of p) = fin p (ask f s p q)
-settled fin f s q (Nobody r) = refused r
+abbrev pub arrived : PeNumber → ByteAddress → Translation → Outcome
+arrived p a t = outcomeOf p a (t .result) (length (t .reads))
 
-unfoldable pub decidedBy : Bool → ((p : PeNumber) → Asked → Outcome) → Tables → Live → Request → Outcome
-decidedBy ok fin f s q = cond ok (cond (formed q) (settled fin f s q (owner f s q)) (refused BadRequest)) (refused TableLength)
+unfoldable pub finish : List ℕ → Checked → Outcome
+finish m (Kept a) = kept a
+finish m (Ready p o) = o
+finish m (Walk p e q) = arrived p (q .address) (byPages m e (q .direction) (offset (q .address)))
+
+unfoldable pub act : (n : ℕ) → (peers : List ℕ) → PeNumber → Effect → Live → Live
+act n v p Keep s = s
+act n v p (Freeze e b) s = record { state = froze n (taken b v p) p e (s .state); interrupts = s .interrupts }
+act n v p (Release c) s = record { state = released c p (s .state); interrupts = s .interrupts }
+act n v p (Interrupt i k b) s = record { state = s .state; interrupts = stored p i k b (s .interrupts) }
 
 unfoldable pub actBy : Tables → Owner → Effect → Live → Live
-actBy f (Of p) e s = act f p e s
+actBy f (Of p) e s = act (f .sizes .pes) (f .peers) p e s
 actBy f (Nobody r) e s = s
 
+abbrev pub checkedOn : Tables → (memory : ℕ) → Live → Request → Checked
+checkedOn f n s q = checked (f .sizes) (f .requesters) (f .entries) (f .windows) (f .segments) s (sized (f .sizes) (lengths f n s)) q
+
 abbrev pub decided : Tables → List ℕ → Live → Request → Outcome
-decided f m s q = decidedBy (sized (f .sizes) (lengths f (length m) s)) (finish f m) f s q
+decided f m s q = finish m (checkedOn f (length m) s q)
 
 abbrev pub answered : Tables → List ℕ → Live → Request → Answer
 answered f m s q = decided f m s q .answer

@@ -2,16 +2,18 @@
 --     Tables              what is fixed during a sequence, memory apart: the sizes N, M and R, requesters, translation entries, peers, windows, segments
 --     Live                what is written: state and interrupts
 --     lengths f n s       the lengths of all lent tables, n being that of memory
---     sized z l           not reason 1: no number and no length is off the table of 01
+--     sized z l           not reason 1: no number and no length is off the table of 01. Its tests: limits z, of N, M and R; dmaLengths z l and
+--                         otherLengths z l, of the tables that a DMA reads before its walk and memory, and of the others
 --     entryWords ..       the words of a PE's translation entries, of one record, of a peer vector, of an interrupt, of a PE's state; of the windows
 --     mostPes ..          the limits of N, M, R and memory
---     named r z n         the PE with number n, or nobody with refusal r: n is a PE where it is below N
+--     named r n k         the PE with number k, or nobody with refusal r: k is a PE where it is below N
 -- Assumes nothing.
-use mathlib.Core.Bool.{Bool, cond, _&&_}
-use mathlib.Core.List.{List}
+use mathlib.Core.Bool.{Bool, cond}
+use mathlib.Core.List.{List, [], _∷_, _++_}
 use Prim.Native.Nat.{ℕ, _*_}
 use lib.Dec.{leb, ltb, eqb}
 use lib.ListN.{length}
+use Rattle.kinds.specs.Tests.{all}
 use Rattle.kinds.specs.declared.answer.Reason.{Reason}
 use Rattle.kinds.specs.declared.lookup.Owner.{Owner}
 use Rattle.kinds.specs.declared.lookup.Owner.the-variants.{Of, Nobody}
@@ -75,19 +77,28 @@ lengths f n s = record {
   state = length (s .state);
 }
 
-unfoldable pub sized : Sizes → Lengths → Bool
-sized z l =
-    leb 1 (z .pes) && leb (z .pes) mostPes
-    && leb (z .interrupts) mostInterrupts
-    && leb 1 (z .requesters) && leb (z .requesters) mostRequesters
-    && eqb (l .requesters) (z .requesters)
-    && eqb (l .entries) (z .pes * entryWords)
-    && leb (l .memory) mostMemory
-    && eqb (l .peers) (z .pes * peerWords)
-    && eqb (l .interrupts) (z .interrupts * interruptWords)
-    && eqb (l .windows) windowWords
-    && eqb (l .segments) segmentCount
-    && eqb (l .state) (z .pes * stateWords)
+abbrev pub limits : Sizes → List Bool
+limits z =
+    leb 1 (z .pes) ∷ leb (z .pes) mostPes
+    ∷ leb (z .interrupts) mostInterrupts
+    ∷ leb 1 (z .requesters) ∷ leb (z .requesters) mostRequesters ∷ []
 
-unfoldable pub named : Reason → Sizes → ℕ → Owner
-named r z n = cond (ltb n (z .pes)) (Of (record { 0 = n })) (Nobody r)
+abbrev pub dmaLengths : Sizes → Lengths → List Bool
+dmaLengths z l =
+    eqb (l .requesters) (z .requesters)
+    ∷ eqb (l .entries) (z .pes * entryWords)
+    ∷ leb (l .memory) mostMemory ∷ []
+
+abbrev pub otherLengths : Sizes → Lengths → List Bool
+otherLengths z l =
+    eqb (l .peers) (z .pes * peerWords)
+    ∷ eqb (l .interrupts) (z .interrupts * interruptWords)
+    ∷ eqb (l .windows) windowWords
+    ∷ eqb (l .segments) segmentCount
+    ∷ eqb (l .state) (z .pes * stateWords) ∷ []
+
+unfoldable pub sized : Sizes → Lengths → Bool
+sized z l = all (limits z ++ dmaLengths z l ++ otherLengths z l)
+
+unfoldable pub named : Reason → (pes k : ℕ) → Owner
+named r n k = cond (ltb k n) (Of (record { 0 = k })) (Nobody r)

@@ -5,13 +5,15 @@
 --     turn k n j w r      what word w at place j comes to with k levels below, r being the walk of the level below
 --     walkFrom m l n b q  the walk of l levels from the table at b
 --     walk m e q          the walk of page q by entry e
---     Walked              what was found, and the places of the words read, in order: their number is the count in the answer. A fault has the place
---                         that the walk stopped at; a word outside memory is not among those read
+--     Walked              what was found, and the places of the words read, in order. A fault has the place that the walk stopped at; a word
+--                         outside memory is not among those read
 --     allows d w          the last word allows direction d: bit 0 is read-valid, bit 1 write-valid
---     arrive s d p a r    what a finished walk comes to: the word's bits from the page size up joined with the page offset, or 8, or 15
---     arriveAt s d p a x n    the same by what was found, after n words
---     reads f m p a       the places of the memory words that the walk of PE p reads for address a; readsBy e m a: by entry e
---     translated m e p d a    what a DMA comes to by entry e: the walk, or what the entry alone says
+--     landed s d o x      what was found gives offset o: the word's bits from the page size up joined with the page offset, or 8, or 15
+--     Translation         a system address or a fault, and the places of the words read: their number is the count in the answer
+--     translated m e d o  THE TRANSLATION of offset o by entry e: by the walk, or what the entry alone says. It knows no PE
+--     walkedPage m e q    the walk of page q by any entry: one whose table cannot be walked at all reads nothing
+--     byPages m e d o     what is left of the translation where the page table is walked: by that walk
+--     readsBy e m o       the places of the memory words that it reads; reads f m p a: those of PE p for address a
 -- Assumes nothing.
 use mathlib.Core.Bool.{Bool, cond, not, _&&_}
 use mathlib.Core.List.{List, [], _∷_}
@@ -19,21 +21,21 @@ use Prim.Native.Nat.{ℕ, zero, suc, _+_, _*_, _/_, _%_, _^_}
 use lib.Dec.{ltb, eqb}
 use lib.ListN.{length}
 use Rattle.kinds.specs.Number.{pageNumber, byteAddress}
-use Rattle.kinds.specs.Outcome.{passed, failed}
 use Rattle.kinds.specs.Words.{at}
 use Rattle.kinds.specs.declared.answer.Reason.the-variants.{TableWord, OutsideMemory}
 use Rattle.kinds.specs.declared.lookup.Found.{Found}
 use Rattle.kinds.specs.declared.lookup.Found.the-variants.{Frame, Forbidden, Outside}
+use Rattle.kinds.specs.declared.lookup.Translated.{Translated}
+use Rattle.kinds.specs.declared.lookup.Translated.the-variants.{To, Fault}
 use Rattle.kinds.specs.declared.number.ByteAddress.{ByteAddress}
 use Rattle.kinds.specs.declared.number.PageNumber.{PageNumber}
 use Rattle.kinds.specs.declared.number.PageSize.{PageSize}
 use Rattle.kinds.specs.declared.number.PeNumber.{PeNumber}
-use Rattle.kinds.specs.declared.outcome.Outcome.{Outcome}
 use Rattle.kinds.specs.declared.record.TranslationEntry.{TranslationEntry}
 use Rattle.kinds.specs.declared.request.Direction.{Direction}
 use Rattle.kinds.specs.declared.request.Direction.the-variants.{Read, Write}
 use Rattle.profile.specs.Tables.{Tables}
-use Rattle.profile.specs.Entry.{half, offset, entry, pageSize, pageOf, indexBits, aligned, walks, unwalked}
+use Rattle.profile.specs.Entry.{half, offset, entry, pageSize, pageOf, indexBits, aligned, small, walks, unwalked}
 
 pub record Walked : Type 0 where
   pub found : Found
@@ -49,7 +51,7 @@ unfoldable pub leads : (bits w : ℕ) → Bool
 leads n w = not (eqb (w % 4) 0) && aligned n (nextBase w)
 
 unfoldable pub turn : (below bits place word : ℕ) → Walked → Walked
-turn zero n j w r = record { found = Frame w; reads = j ∷ [] }
+turn zero n j w r = record { found = Frame j w; reads = j ∷ [] }
 turn (suc k) n j w r =
     cond (leads n w) (record { found = r .found; reads = j ∷ r .reads }) (record { found = Forbidden j; reads = j ∷ [] })
 
@@ -67,20 +69,30 @@ unfoldable pub allows : Direction → ℕ → Bool
 allows Read w = eqb (w % 2) 1
 allows Write w = eqb (w / 2 % 2) 1
 
-unfoldable pub arriveAt : PageSize → Direction → PeNumber → ByteAddress → Found → (words : ℕ) → Outcome
-arriveAt s d p a (Frame w) n =
-    cond (allows d w) (passed p (byteAddress s (pageNumber s (record { 0 = w })) (offset a)) n) (failed TableWord a n)
-arriveAt s d p a (Forbidden j) n = failed TableWord a n
-arriveAt s d p a (Outside j) n = failed OutsideMemory a n
+unfoldable pub landed : PageSize → Direction → (offset : ByteAddress) → Found → Translated
+landed s d o (Frame j w) = cond (allows d w) (To (byteAddress s (pageNumber s (record { 0 = w })) o)) (Fault TableWord j)
+landed s d o (Forbidden j) = Fault TableWord j
+landed s d o (Outside j) = Fault OutsideMemory j
 
-abbrev pub arrive : PageSize → Direction → PeNumber → ByteAddress → Walked → Outcome
-arrive s d p a r = arriveAt s d p a (r .found) (length (r .reads))
+pub record Translation : Type 0 where
+  pub result : Translated
+  pub reads : List ℕ
 
-unfoldable pub readsBy : TranslationEntry → List ℕ → ByteAddress → List ℕ
-readsBy e m a = cond (walks e a) (walk m e (pageOf e a) .reads) []
+abbrev pub walkedPage : List ℕ → TranslationEntry → PageNumber → Walked
+walkedPage m e q = cond (small e) (walk m e q) (record { found = Forbidden 0; reads = [] })
+
+unfoldable pub byPages : List ℕ → TranslationEntry → Direction → (offset : ByteAddress) → Translation
+byPages m e d o =
+    record { result = landed (pageSize e) d o (walkedPage m e (pageOf e o) .found); reads = walkedPage m e (pageOf e o) .reads }
+
+unfoldable pub translated : List ℕ → TranslationEntry → Direction → (offset : ByteAddress) → Translation
+translated m e d o =
+    cond (walks e o)
+    (record { result = landed (pageSize e) d o (walk m e (pageOf e o) .found); reads = walk m e (pageOf e o) .reads })
+    (record { result = unwalked e o; reads = [] })
+
+unfoldable pub readsBy : TranslationEntry → List ℕ → (offset : ByteAddress) → List ℕ
+readsBy e m o = cond (walks e o) (walk m e (pageOf e o) .reads) []
 
 abbrev pub reads : Tables → List ℕ → PeNumber → ByteAddress → List ℕ
-reads f m p a = readsBy (entry f p (half a)) m a
-
-unfoldable pub translated : List ℕ → TranslationEntry → PeNumber → Direction → ByteAddress → Outcome
-translated m e p d a = cond (walks e a) (arrive (pageSize e) d p a (walk m e (pageOf e a))) (unwalked p e a)
+reads f m p a = readsBy (entry f p (half a)) m (offset a)

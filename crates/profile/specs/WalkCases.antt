@@ -4,11 +4,22 @@
 --     forbidden           reason 8: the last word, an upper word, a lower table misaligned; before 15
 --     missing             reason 15, at the first word and at later ones, and the last word of memory
 --     walkCases           all of them
+--     Translating         a memory, an entry, a direction and an offset, and its translation: the address or the fault with its place, and the words read
+--     translations        each way that a translation ends, by its places; translations-hold: THE STATEMENT over them
 -- Assumes nothing.
-use mathlib.Core.List.{List, [], _∷_, _++_}
-use Prim.Native.Nat.{ℕ}
-use Rattle.kinds.specs.declared.answer.Reason.the-variants.{TableWord, OutsideMemory}
+use mathlib.Core.Path.{_≡_, refl}
+use mathlib.Core.List.{List, [], _∷_, _++_, map}
+use Prim.Native.Nat.{ℕ, _/_}
+use Rattle.kinds.specs.declared.answer.Reason.the-variants.{BadEntry, OutsideWindow, TableWord, OutsideMemory}
+use Rattle.kinds.specs.declared.lookup.Translated.{Translated}
+use Rattle.kinds.specs.declared.lookup.Translated.the-variants.{To, Fault}
+use Rattle.kinds.specs.declared.number.ByteAddress.{ByteAddress}
+use Rattle.kinds.specs.declared.record.TranslationEntry.{TranslationEntry}
+use Rattle.kinds.specs.declared.request.Direction.{Direction}
+use Rattle.kinds.specs.declared.request.Direction.the-variants.{Read, Write}
+use Rattle.profile.specs.Opened.{opened}
 use Rattle.profile.specs.Tables.{Tables}
+use Rattle.profile.specs.Walk.{Translation, translated}
 use Rattle.profile.specs.Case.{Case, plain, idle, empty, words, read, write, pass, keeps, freezes}
 use Rattle.profile.specs.DmaCases.{first, passes}
 
@@ -106,3 +117,51 @@ missing =
 unfoldable pub walkCases : List Case
 unfolding pages levels forbidden missing
 walkCases = pages ++ levels ++ forbidden ++ missing
+
+-- ---- the translation alone
+
+pub record Translating : Type 0 where
+  pub memory : List ℕ
+  pub entry : TranslationEntry
+  pub direction : Direction
+  pub offset : ByteAddress
+  pub translation : Translation
+
+-- by the entry b, l, c, p; a word read is named by its address
+abbrev pub translating : List ℕ → (b l c p : ℕ) → Direction → (offset : ℕ) → Translated → (read : List ℕ) → Translating
+translating m b l c p d o x r = record {
+  memory = m;
+  entry = record { base = b; levels = l; table = c; page = p };
+  direction = d;
+  offset = record { 0 = o };
+  translation = record { result = x; reads = map (λ a. a / 8) r };
+}
+
+abbrev pub to : ℕ → Translated
+to a = To (record { 0 = a })
+
+unfoldable pub translations : List Translating
+translations =
+    -- to a last word, by one level and by five
+    translating chain 0x5000 1 1 1 Read 0x5ABC (to 0x12345ABC) (0x5028 ∷ [])
+    ∷ translating chain 0x1000 5 1 1 Write 0x10100C0805ABC (to 0x12345ABC) (0x1008 ∷ 0x2010 ∷ 0x3018 ∷ 0x4020 ∷ 0x5028 ∷ [])
+    -- 8: the last word, an upper word, a lower table misaligned
+    ∷ translating (words 0x5028 0x12345002 chain) 0x4000 2 1 1 Read 0x805ABC (Fault TableWord (0x5028 / 8)) (0x4020 ∷ 0x5028 ∷ [])
+    ∷ translating (words 0x4020 0x5000 chain) 0x3000 3 1 1 Read 0xC0805ABC (Fault TableWord (0x4020 / 8)) (0x3018 ∷ 0x4020 ∷ [])
+    ∷ translating (words 0x2008 0x5003 empty) 0x2000 2 2 1 Read 0x403010 (Fault TableWord (0x2008 / 8)) (0x2008 ∷ [])
+    -- 15: the first word, and a later one, which is not among those read
+    ∷ translating empty 0x6000 1 1 1 Read 0x3ABC (Fault OutsideMemory (0x6018 / 8)) []
+    ∷ translating (words 0x4020 0x6001 chain) 0x4000 2 1 1 Write 0x805ABC (Fault OutsideMemory (0x6028 / 8)) (0x4020 ∷ [])
+    -- bypass, and its 7 and 6
+    ∷ translating empty 1 2 1 0 Read 0x1000000 (to 0x1000000) []
+    ∷ translating empty 1 2 1 0 Read 0x2000000 (Fault OutsideWindow 0) []
+    ∷ translating empty 2 2 1 0 Read 0x2000000 (Fault BadEntry 0) []
+    -- 7 and 6 of pages; a bad table code
+    ∷ translating empty 0x2000 1 1 1 Read 0x200000 (Fault OutsideWindow 0) []
+    ∷ translating empty 0x2000 1 1 2 Read 0x3ABC (Fault BadEntry 0) []
+    ∷ translating empty 0x2000 1 0 1 Read 0x3ABC (Fault BadEntry 0) []
+    ∷ []
+
+pub translations-hold : map (λ c. translated (c .memory) (c .entry) (c .direction) (c .offset)) translations ≡ map (λ c. c .translation) translations
+unfolding opened translations
+translations-hold = refl

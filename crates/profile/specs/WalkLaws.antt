@@ -7,24 +7,32 @@
 --     turn-reads          what a word comes to depends on the level below only where the word leads on
 --     walkFrom-reads      THE FOOTPRINT: two memories of one length, with the same words at the places that the walk reads in the first, give the
 --                         same walk, so the same places
---     walk-reads, reads-reads, translated-reads   the same of the walk by an entry for an address, of the places read for it, of what a DMA comes to
+--     walk-reads, reads-reads, translated-reads   the same of the walk by an entry for an offset, of the places read for it, of its translation
+--     paged-small         a good entry with pages has a table that can be walked; pages-is: where it is walked, that is the translation
+--     walk-counted        A WALK TO A LAST WORD READS AS MANY WORDS AS THERE ARE LEVELS; pass-counted: so a translation by pages to an address does;
+--                         unwalked-counted: and one without a walk reads none
 -- Assumes nothing.
-use mathlib.Core.Path.{_≡_, refl}
-use mathlib.Core.Bool.{Bool, true, false, cond}
+use mathlib.Core.Path.{_≡_, refl, ap}
+use mathlib.Core.Bool.{Bool, true, false, cond, not, _&&_}
 use mathlib.Core.List.{List, [], _∷_, List·Memᴰ, List·Memᴰ·head, List·Memᴰ·tail, List·Memᴰ·not-nil}
-use Prim.Native.Nat.{ℕ, zero, suc}
-use lib.Dec.{ltb}
+use Prim.Native.Nat.{ℕ, zero, suc, _*_, _^_, _≤_}
+use native.Mathlib.Nat.{mul-comm}
+use native.Mathlib.Omega.{arith}
+use lib.Dec.{leb, ltb}
 use lib.ListN.{length}
-use Rattle.kinds.specs.Tests.{by-cases, clash}
+use borrow.Author.Tests.{le-leb, leb-true}
+use Rattle.kinds.specs.Tests.{by-cases, clash, and-left, and-right, all-true}
 use Rattle.kinds.specs.Words.{at}
-use Rattle.kinds.specs.declared.lookup.Found.the-variants.{Forbidden, Outside}
+use Rattle.kinds.specs.declared.lookup.Found.{Found}
+use Rattle.kinds.specs.declared.lookup.Found.the-variants.{Frame, Forbidden, Outside}
+use Rattle.kinds.specs.declared.lookup.Translated.the-variants.{To, Fault}
 use Rattle.kinds.specs.declared.number.ByteAddress.{ByteAddress}
 use Rattle.kinds.specs.declared.number.PageNumber.{PageNumber}
-use Rattle.kinds.specs.declared.number.PeNumber.{PeNumber}
+use Rattle.kinds.specs.declared.number.PageSize.{PageSize}
 use Rattle.kinds.specs.declared.record.TranslationEntry.{TranslationEntry}
 use Rattle.kinds.specs.declared.request.Direction.{Direction}
-use Rattle.profile.specs.Entry.{pageOf, indexBits, walks}
-use Rattle.profile.specs.Walk.{Walked, place, nextBase, leads, turn, walkFrom, walk, readsBy, translated}
+use Rattle.profile.specs.Entry.{pageSize, pageOf, indexBits, span, offsetBits, tableGood, bypass, pageTests, pagesGood, paged, small, walks, unwalked}
+use Rattle.profile.specs.Walk.{Walked, place, nextBase, leads, turn, walkFrom, walk, landed, byPages, translated, readsBy}
 
 pub walk-zero : (m : List ℕ) (n : ℕ) (b : ByteAddress) (q : PageNumber) → walkFrom m zero n b q ≡ record { found = Forbidden 0; reads = [] }
 unfolding walkFrom
@@ -99,14 +107,86 @@ module _ (m m′ : List ℕ) (same-length : length m ≡ length m′) where
       (λ i z. h i (rw (walk-suc m k n b q, o) (later-read k n j (at m j) below p i z))))))
       (λ o. rw o))
 
-  module _ (e : TranslationEntry) (a : ByteAddress) (same-words : (k : ℕ) → List·Memᴰ k (readsBy e m a) → at m k ≡ at m′ k) where
-    pub walk-reads : walks e a ≡ true → walk m e (pageOf e a) ≡ walk m′ e (pageOf e a)
-    walk-reads o = walkFrom-reads (e .levels) (indexBits e) (record { 0 = e .base }) (pageOf e a) (λ k h. same-words k (unfold readsBy in rw o h))
+  module _ (e : TranslationEntry) (o : ByteAddress) (same-words : (k : ℕ) → List·Memᴰ k (readsBy e m o) → at m k ≡ at m′ k) where
+    pub walk-reads : walks e o ≡ true → walk m e (pageOf e o) ≡ walk m′ e (pageOf e o)
+    walk-reads t = walkFrom-reads (e .levels) (indexBits e) (record { 0 = e .base }) (pageOf e o) (λ k h. same-words k (unfold readsBy in rw t h))
 
-    pub reads-reads : readsBy e m a ≡ readsBy e m′ a
+    pub reads-reads : readsBy e m o ≡ readsBy e m′ o
     unfolding readsBy
-    reads-reads = by-cases (walks e a) (λ o. rw (o, walk-reads o)) (λ o. rw o)
+    reads-reads = by-cases (walks e o) (λ t. rw (t, walk-reads t)) (λ t. rw t)
 
-    pub translated-reads : (p : PeNumber) (d : Direction) → translated m e p d a ≡ translated m′ e p d a
+    pub translated-reads : (d : Direction) → translated m e d o ≡ translated m′ e d o
     unfolding translated
-    translated-reads p d = by-cases (walks e a) (λ o. rw (o, walk-reads o)) (λ o. rw o)
+    translated-reads d = by-cases (walks e o) (λ t. rw (t, walk-reads t)) (λ t. rw t)
+
+-- ---- the count of a pass
+
+-- a fault of a walk is not a last word
+forbidden-frame : {P : Type 0} {i j x : ℕ} → Forbidden i ≡ Frame j x → P
+forbidden-frame e = absurd (let z : _≡_ {A = ℕ} 0 1 = cc in omega arith)
+
+outside-frame : {P : Type 0} {i j x : ℕ} → Outside i ≡ Frame j x → P
+outside-frame e = absurd (let z : _≡_ {A = ℕ} 0 1 = cc in omega arith)
+
+turn-counted : (k n j w i x : ℕ) (r : Walked) → (r .found ≡ Frame i x → length (r .reads) ≡ k) → turn k n j w r .found ≡ Frame i x
+    → length (turn k n j w r .reads) ≡ suc k
+unfolding turn
+turn-counted zero n j w i x r h e = refl
+turn-counted (suc k) n j w i x r h e =
+    by-cases (leads n w) (λ o. rw o (ap suc (h (rw o at e)))) (λ o. forbidden-frame (rw o at e))
+
+pub walk-counted : (m : List ℕ) (l n : ℕ) (b : ByteAddress) (q : PageNumber) (i x : ℕ) → walkFrom m l n b q .found ≡ Frame i x
+    → length (walkFrom m l n b q .reads) ≡ l
+walk-counted m zero n b q i x e = rw (walk-zero m n b q)
+walk-counted m (suc k) n b q i x e =
+    let j = place k n b q in
+    let below = walkFrom m k n (nextBase (at m j)) q in
+    let y : cond (ltb j (length m)) (turn k n j (at m j) below) (record { found = Outside j; reads = [] }) .found ≡ Frame i x =
+    rw (walk-suc m k n b q) at e in
+    rw (walk-suc m k n b q)
+    (by-cases (ltb j (length m))
+    (λ o. rw o (turn-counted k n j (at m j) i x below (walk-counted m k n (nextBase (at m j)) q i x) (rw o at y)))
+    (λ o. outside-frame (rw o at y)))
+
+-- only a last word lands at an address
+landed-frame : {P : Type 0} (s : PageSize) (d : Direction) (o : ByteAddress) (f : Found) (t : ByteAddress) → landed s d o f ≡ To t
+    → ((j x : ℕ) → f ≡ Frame j x → P) → P
+unfolding landed
+landed-frame s d o (Frame j w) t e g = g j w refl
+landed-frame s d o (Forbidden j) t e g = absurd (let z : _≡_ {A = ℕ} 0 1 = cc in omega arith)
+landed-frame s d o (Outside j) t e g = absurd (let z : _≡_ {A = ℕ} 0 1 = cc in omega arith)
+
+module _ (m : List ℕ) (e : TranslationEntry) (d : Direction) (o : ByteAddress) where
+  pub pass-counted : walks e o ≡ true → (t : ByteAddress) → translated m e d o .result ≡ To t → length (translated m e d o .reads) ≡ e .levels
+  unfolding translated
+  pass-counted w t h =
+      rw w
+      (landed-frame (pageSize e) d o (walk m e (pageOf e o) .found) t (rw w at h)
+      (λ j x f. walk-counted m (e .levels) (indexBits e) (record { 0 = e .base }) (pageOf e o) j x f))
+
+  pub unwalked-counted : walks e o ≡ false → translated m e d o ≡ record { result = unwalked e o; reads = [] }
+  unfolding translated
+  unwalked-counted w = rw w
+
+-- ---- a table that is walked can be walked
+
+span-bits : (e : TranslationEntry) → span e ≤ offsetBits → indexBits e * e .levels ≤ offsetBits
+unfolding span
+span-bits e h = omega (arith, mul-comm (indexBits e) (e .levels))
+
+pub paged-small : (e : TranslationEntry) → paged e ≡ true → small e ≡ true
+unfolding paged small tableGood pagesGood
+paged-small e t =
+    let good = and-right (tableGood e && not (bypass e)) (pagesGood e) t in
+    let table = and-left (tableGood e) (not (bypass e)) (and-left (tableGood e && not (bypass e)) (pagesGood e) t) in
+    rw (and-right (leb 1 (e .table)) (leb (e .table) 31) table, all-true (pageTests e) 2 good)
+    (rw (le-leb (indexBits e * e .levels) offsetBits (span-bits e (leb-true (span e) offsetBits (all-true (pageTests e) 4 good)))))
+
+module _ (m : List ℕ) (e : TranslationEntry) (o : ByteAddress) (w : walks e o ≡ true) where
+  walks-small : small e ≡ true
+  unfolding walks
+  walks-small = paged-small e (and-left (paged e) (ltb (o .0) (2 ^ span e)) w)
+
+  pub pages-is : (d : Direction) → byPages m e d o ≡ translated m e d o
+  unfolding byPages translated
+  pages-is d = rw (w, walks-small)

@@ -9,14 +9,15 @@
 --     window ws k         M64 window k of the table
 --     m64Pe w a           the number that window w gives as the PE of a: its PE word in mode 1, else the segment
 --     m64 w a h           what window w gives where it takes a, else h; m64From ws n k a: the first of n windows from window k that takes a
---     route ws ss a       the first open window that covers a: its PE's number, below N or not, and the PCI address. M32 first, then M64 0 to 15
+--     route ws ss a       the first open window that covers a: its PE's number, below N or not, and the PCI address. M32 first, then M64 0 to 15.
+--                         A word of a PE that a table does not have is no PE's number
 --     onesOf w            all ones of w bytes
 -- Assumes nothing.
 use mathlib.Core.Bool.{Bool, cond, _&&_, _||_}
 use mathlib.Core.List.{List}
 use Prim.Native.Nat.{ℕ, zero, suc, _+_, _-_, _*_, _/_, _%_, _^_}
 use lib.Dec.{leb, ltb, eqb}
-use Rattle.kinds.specs.Words.{at}
+use Rattle.kinds.specs.Words.{at, peAt}
 use Rattle.kinds.specs.declared.lookup.Hit.{Hit}
 use Rattle.kinds.specs.declared.lookup.Hit.the-variants.{At, Miss}
 use Rattle.kinds.specs.declared.number.ByteAddress.{ByteAddress}
@@ -57,7 +58,7 @@ window ws k = record {
   base = at ws (m32Words + k * m64Words);
   size = at ws (m32Words + (k * m64Words + 1));
   mode = at ws (m32Words + (k * m64Words + 2));
-  pe = at ws (m32Words + (k * m64Words + 3));
+  pe = peAt ws (m32Words + (k * m64Words + 3));
 }
 
 unfoldable pub m64 : Window → ByteAddress → Hit → Hit
@@ -71,7 +72,7 @@ m64From ws (suc n) k a = m64 (window ws k) a (m64From ws n (k + 1) a)
 unfoldable pub route : (windows segments : List ℕ) → ByteAddress → Hit
 route ws ss a =
     cond (m32Open (at ws 0) (at ws 1) (at ws 2) && covers (at ws 0) (at ws 1) a)
-    (At (at ss (segmentOf (at ws 0) (at ws 1) a)) (record { 0 = a .0 - at ws 0 + at ws 2 }))
+    (At (peAt ss (segmentOf (at ws 0) (at ws 1) a)) (record { 0 = a .0 - at ws 0 + at ws 2 }))
     (m64From ws m64Count 0 a)
 
 unfoldable pub onesOf : (width : ℕ) → ℕ

@@ -3,6 +3,7 @@ use fields::same;
 use firmware_lines::firmware_line;
 use kinds::number::ByteAddress;
 use kinds::request::Direction;
+use kinds::request::DmaRequest;
 use kinds::request::Request;
 use line_text::Line;
 use name_fields::DirectionField;
@@ -64,13 +65,13 @@ fn dma(requester: u64, direction: Direction, address: u64, length: u64, data: u6
     if DATA_LIMIT <= data {
         return Line::Bad;
     }
-    Line::Request(Request::Dma {
+    Line::Request(Request::Dma(DmaRequest {
         requester,
         direction,
         address: ByteAddress(address),
         length,
         data: data as u32,
-    })
+    }))
 }
 
 fn load_line(line: &[u8], word: usize) -> Line

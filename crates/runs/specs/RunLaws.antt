@@ -1,58 +1,55 @@
--- A run over words as a list of requests.
---     requestsFrom w k n  n requests of the request words w, from request k, as what their words name
+-- A run over words is the run of the requests that the words name.
+--     room                the answer words have room for what is served
 --     ranTo-live          a run leaves what the list of its requests leaves
---     ranTo-words         answer j of a run is what request j is answered on the tables that it meets
+--     ranTo-answers       its first answer words are the answers to that list, one after the other, and the others stay
 -- Assumes nothing.
-use mathlib.Core.Path.{_≡_, refl, sym, ap, _∙_}
+use mathlib.Core.Path.{_≡_, refl, ap, _∙_}
 use mathlib.Core.List.{List, [], _∷_}
-use Prim.Native.Nat.{ℕ, zero, suc, _+_, _*_, _<_, _≤_}
-use native.Mathlib.Nat.{add-zero, suc-mul}
+use Prim.Native.Nat.{ℕ, zero, suc, _+_, _*_, _/_, _≤_}
+use native.Mathlib.Nat.{add-zero, zero-add, min-le-right}
 use native.Mathlib.Omega.{arith}
-use lib.Dec.{eqb}
 use lib.ListN.{length}
-use borrow.Author.Tests.{eqb-true, eqb-false}
-use Rattle.kinds.specs.Answer.{numbered}
-use Rattle.kinds.specs.Tests.{by-cases}
+use Rattle.kinds.specs.declared.request.Request.{Request}
 use Rattle.isolation.specs.Machine.{end}
+use Rattle.profile.specs.Step.{after}
 use Rattle.profile.specs.Tables.{Tables, Live}
-use Rattle.layout.specs.Layout.{answerWords, decodedAt, numberList, wordsAt}
-use Rattle.layout.specs.LayoutLaws.{length-written, words-written, words-kept}
-use Rattle.runs.specs.Run.{answeredAs, afterAs, ranTo}
-use Rattle.layout.specs.declared.Decoded.{Decoded}
+use Rattle.layout.specs.Layout.{requestWords, answerWords, requestsFrom, answersOf, over}
+use Rattle.layout.specs.LayoutLaws.{writtenFrom, all-written}
+use Rattle.runs.specs.Run.{RunState, served, ranTo, answersTo}
 
-abbrev pub requestsFrom : List ℕ → (k n : ℕ) → List Decoded
-requestsFrom w k zero = []
-requestsFrom w k (suc n) = decodedAt w k ∷ requestsFrom w (suc k) n
+pub room : (w l : List ℕ) → served w l * answerWords ≤ length l
+room w l = omega (arith, min-le-right (length w / requestWords) (length l / answerWords))
 
--- ---- the run, request by request
+length-requests : (w : List ℕ) (k n : ℕ) → length (requestsFrom w k n) ≡ n
+length-requests w k zero = refl
+length-requests w k (suc n) = ap suc (length-requests w (suc k) n)
 
-module _ (f : Tables) (m w : List ℕ) (s : Live) (l : List ℕ) where
-  -- the tables that request k meets
-  met : ℕ → Live
-  met k = ranTo f m w s l k .live
+length-answers : (f : Tables) (m : List ℕ) (s : Live) (l : List Request) → length (answersTo f m s l) ≡ length l
+length-answers f m s [] = refl
+length-answers f m s (q ∷ l) = ap suc (length-answers f m (after f m s q) l)
 
-  -- what n requests from request k leave
-  met-end : (k n : ℕ) → end (afterAs f m) (met k) (requestsFrom w k n) ≡ met (k + n)
+module _ (f : Tables) (m w : List ℕ) (s : Live) (x : List ℕ) where
+  -- the tables that request k meets, and the answer words
+  met : ℕ → RunState
+  met k = ranTo f m w s x k
+
+  -- n requests from request k
+  met-from : (k n : ℕ) → met (k + n) ≡ record {
+    live = end (after f m) (met k .live) (requestsFrom w k n);
+    answers = writtenFrom (met k .answers) k (answersTo f m (met k .live) (requestsFrom w k n));
+  }
   unfolding met ranTo
-  met-end k zero = ap met (sym (add-zero k))
-  met-end k (suc n) = let e : suc k + n ≡ k + suc n = omega arith in met-end (suc k) n ∙ ap met e
+  met-from k zero = rw add-zero
+  met-from k (suc n) = let e : k + suc n ≡ suc k + n = omega arith in rw e (met-from (suc k) n)
 
-  pub ranTo-live : (n : ℕ) → end (afterAs f m) s (requestsFrom w 0 n) ≡ ranTo f m w s l n .live
+  all-met : (n : ℕ) → ranTo f m w s x n ≡ record { live = end (after f m) s (requestsFrom w 0 n); answers = writtenFrom x 0 (answersTo f m s (requestsFrom w 0 n)) }
   unfolding met ranTo
-  ranTo-live n = let e : 0 + n ≡ n = omega arith in met-end 0 n ∙ ap met e
+  all-met n = rw zero-add at (met-from 0 n)
 
-  length-ran : (n : ℕ) → length (ranTo f m w s l n .answers) ≡ length l
-  unfolding met ranTo
-  length-ran zero = refl
-  length-ran (suc n) = length-written (ranTo f m w s l n .answers) n (answeredAs f m (met n) (decodedAt w n)) ∙ length-ran n
+  pub ranTo-live : (n : ℕ) → ranTo f m w s x n .live ≡ end (after f m) s (requestsFrom w 0 n)
+  ranTo-live n = ap (λ (r : RunState). r .live) (all-met n)
 
-  pub ranTo-words : (n : ℕ) → n * answerWords ≤ length l → (j : ℕ) → j < n
-      → wordsAt (ranTo f m w s l n .answers) j ≡ numberList (numbered (answeredAs f m (ranTo f m w s l j .live) (decodedAt w j)))
-  unfolding ranTo
-  ranTo-words zero h j g = absurd (omega arith)
-  ranTo-words (suc n) h j g =
-      let a = answeredAs f m (ranTo f m w s l n .live) (decodedAt w n) in
-      by-cases (eqb j n)
-      (λ o. rw (eqb-true j n o) (words-written (ranTo f m w s l n .answers) n a (rw (length-ran n) (omega (arith, suc-mul n answerWords)))))
-      (λ o. let z = eqb-false j n o in
-      words-kept (ranTo f m w s l n .answers) n a j (omega arith) ∙ ranTo-words n (omega (arith, suc-mul n answerWords)) j (omega arith))
+  pub ranTo-answers : (n : ℕ) → n * answerWords ≤ length x → ranTo f m w s x n .answers ≡ over (answersOf (answersTo f m s (requestsFrom w 0 n))) x
+  ranTo-answers n h =
+      ap (λ (r : RunState). r .answers) (all-met n)
+      ∙ all-written x (answersTo f m s (requestsFrom w 0 n)) (rw (length-answers, length-requests) h)

@@ -1,3 +1,2 @@
-pub mod Parts
-pub mod PartsLaws
+pub mod SizedLaws
 pub mod Tables

@@ -13,8 +13,8 @@ use profile::limits::STATE_WORDS;
 use profile::limits::WINDOW_WORDS;
 ghost use mathlib.Core.Path.{_≡_};
 ghost use Prim.Native.Nat.{_≤_};
-ghost use Rattle.profile.specs.Tables.{mostPes, mostInterrupts, sized};
-ghost use Rattle.sizes.specs.Parts.{limited, dmaTables, otherTables};
+ghost use Rattle.kinds.specs.Tests.{all};
+ghost use Rattle.profile.specs.Tables.{mostPes, mostInterrupts, limits, dmaLengths, otherLengths, sized};
 
 pub fn sized(sizes: Sizes, lengths: Lengths) -> bool
     ensures { λ r. ⌜ r ≡ sized sizes lengths ⌝ }
@@ -29,7 +29,7 @@ pub fn sized(sizes: Sizes, lengths: Lengths) -> bool
 }
 
 fn in_limits(sizes: Sizes) -> bool
-    ensures { λ r. ⌜ r ≡ limited sizes ⌝ }
+    ensures { λ r. ⌜ r ≡ all (limits sizes) ⌝ }
 {
     if sizes.pes < 1 {
         return false;
@@ -48,7 +48,7 @@ fn in_limits(sizes: Sizes) -> bool
 
 fn dma_tables(sizes: Sizes, lengths: Lengths) -> bool
     requires { ⌜ sizes .pes ≤ mostPes ⌝ }
-    ensures { λ r. ⌜ r ≡ dmaTables sizes lengths ⌝ }
+    ensures { λ r. ⌜ r ≡ all (dmaLengths sizes lengths) ⌝ }
 {
     if lengths.requesters != sizes.requesters {
         return false;
@@ -61,7 +61,7 @@ fn dma_tables(sizes: Sizes, lengths: Lengths) -> bool
 
 fn other_tables(sizes: Sizes, lengths: Lengths) -> bool
     requires { ⌜ (sizes .pes ≤ mostPes) × (sizes .interrupts ≤ mostInterrupts) ⌝ }
-    ensures { λ r. ⌜ r ≡ otherTables sizes lengths ⌝ }
+    ensures { λ r. ⌜ r ≡ all (otherLengths sizes lengths) ⌝ }
 {
     if lengths.peers != sizes.pes * PEER_WORDS {
         return false;

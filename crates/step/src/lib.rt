@@ -4,29 +4,49 @@ use endpoints;
 use freeze;
 use interrupts;
 use kinds::answer::Answer;
-use kinds::lookup::Owner;
 use kinds::number::PeNumber;
 use kinds::outcome::Effect;
+use kinds::record::Lengths;
 use kinds::record::Sizes;
 use kinds::request::Request;
-use owners;
 use peers;
 ghost use mathlib.Core.Path.{_≡_};
-ghost use Rattle.profile.specs.Step.{act, actBy};
+ghost use Rattle.profile.specs.Freeze.{taken};
+ghost use Rattle.profile.specs.Step.{act};
 ghost use Rattle.sizes.specs.Tables.{tables, live};
-ghost use Rattle.step.specs.Promise.{withPeers, isKeep, Handled};
+ghost use Rattle.step.specs.Promise.{Handled};
 
-// An effect at a PE.
-fn act_at(peers: &[u64], interrupts: &mut [u64], state: &mut [u64], pe: PeNumber, effect: Effect)
-    ensures { λ r. ⌜ live (now (state .exit)) (now (interrupts .exit)) ≡ act (withPeers (now (peers .entry))) pe effect (live (now (state .entry)) (now (interrupts .entry))) ⌝ }
+// The peers that a freeze takes with it: those of the PE, or none.
+fn taken(peers: &[u64], pe: PeNumber, with_peers: bool) -> [u64; 4]
+    ensures { λ r. ⌜ r ≡ taken «with_peers» (now (peers .entry)) pe ⌝ }
+{
+    if with_peers {
+        return peers::peer_vector(peers, pe);
+    }
+    [0, 0, 0, 0]
+}
+
+// An effect at a PE. N comes first.
+pub fn act_at(
+    pes: u64,
+    peers: &[u64],
+    interrupts: &mut [u64],
+    state: &mut [u64],
+    pe: PeNumber,
+    effect: Effect,
+)
+    ensures { λ r. ⌜ live (now (state .exit)) (now (interrupts .exit)) ≡ act pes (now (peers .entry)) pe effect (live (now (state .entry)) (now (interrupts .entry))) ⌝ }
 {
     match effect {
         Effect::Keep => {
             return;
         }
-        Effect::Freeze { reason, value } => {
-            let vector = peers::peer_vector(peers, pe);
-            freeze::freeze(state, vector, pe, reason, value);
+        Effect::Freeze {
+            error,
+            peers: with_peers,
+        } => {
+            let vector = taken(peers, pe, with_peers);
+            freeze::freeze(state, pes, vector, pe, error);
             return;
         }
         Effect::Release { part } => {
@@ -39,40 +59,6 @@ fn act_at(peers: &[u64], interrupts: &mut [u64], state: &mut [u64], pe: PeNumber
             bits,
         } => {
             interrupts::store(interrupts, pe, number, priority, bits);
-            return;
-        }
-    }
-}
-
-// Whether an effect changes nothing.
-fn keeps(effect: Effect) -> bool
-    ensures { λ r. ⌜ r ≡ isKeep effect ⌝ }
-{
-    match effect {
-        Effect::Keep => true,
-        Effect::Freeze {
-            reason: _,
-            value: _,
-        } => false,
-        Effect::Release { part: _ } => false,
-        Effect::Interrupt {
-            number: _,
-            priority: _,
-            bits: _,
-        } => false,
-    }
-}
-
-// An effect at the owner of its request.
-fn act_by(peers: &[u64], interrupts: &mut [u64], state: &mut [u64], owner: Owner, effect: Effect)
-    ensures { λ r. ⌜ live (now (state .exit)) (now (interrupts .exit)) ≡ actBy (withPeers (now (peers .entry))) owner effect (live (now (state .entry)) (now (interrupts .entry))) ⌝ }
-{
-    match owner {
-        Owner::Of(pe) => {
-            act_at(peers, interrupts, state, pe, effect);
-            return;
-        }
-        Owner::Nobody(_) => {
             return;
         }
     }
@@ -93,23 +79,29 @@ pub fn handle(
 ) -> Answer
     ensures { λ r. ⌜ Handled (tables sizes (now (requesters .entry)) (now (entries .entry)) (now (peers .entry)) (now (windows .entry)) (now (segments .entry))) (now (memory .entry)) (live (now (state .entry)) (now (interrupts .entry))) request r (live (now (state .exit)) (now (interrupts .exit))) ⌝ }
 {
-    let outcome = decide::decide(
+    let lengths = Lengths {
+        requesters: requesters.len() as u64,
+        entries: entries.len() as u64,
+        memory: memory.len() as u64,
+        peers: peers.len() as u64,
+        interrupts: interrupts.len() as u64,
+        windows: windows.len() as u64,
+        segments: segments.len() as u64,
+        state: state.len() as u64,
+    };
+    let checked = decide::check(
         sizes,
+        lengths,
         requesters,
         entries,
-        memory,
-        peers,
         interrupts,
         windows,
         segments,
         state,
         request,
     );
+    let outcome = decide::finish(memory, checked);
     let effect = outcome.effect;
-    if keeps(effect) {
-        return outcome.answer;
-    }
-    let owner = owners::owner_of(sizes, requesters, interrupts, windows, segments, request);
-    act_by(peers, interrupts, state, owner, effect);
+    act_at(sizes.pes, peers, interrupts, state, checked.pe, effect);
     outcome.answer
 }

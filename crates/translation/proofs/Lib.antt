@@ -1,3 +1,1 @@
 mod TranslateLaws
-mod StepLaws
-mod WalkLaws

@@ -1,4 +1,4 @@
-pub mod Finish
-pub mod FinishLaws
+pub mod LoopLaws
+pub mod StepLaws
 pub mod Turn
 pub mod TurnLaws

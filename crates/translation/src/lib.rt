@@ -1,3 +1,3 @@
-// The translation of a DMA: the walk of a page table, and what the DMA comes to by its entry.
+// The translation of an offset by an entry: the walk of a page table, and what it gives. It knows no PE.
 pub mod translate;
-mod walk;
+pub mod walk;

@@ -1,101 +1,85 @@
-// What a DMA comes to.
-use crate::walk::walk;
-use addresses::offset_of;
-use entries::ask::Way;
-use entries::ask::ask;
+// The translation of an offset by the page table of an entry. It knows no PE.
+use crate::walk::walk_page;
 use kinds::answer::Reason;
 use kinds::lookup::Found;
+use kinds::lookup::Translated;
 use kinds::number::ByteAddress;
 use kinds::number::PageSize;
-use kinds::number::PeNumber;
-use kinds::outcome::Outcome;
 use kinds::record::TranslationEntry;
 use kinds::request::Direction;
-use outcomes::failed;
-use outcomes::passed;
+use page_tables::size_of;
 use pages::byte_address;
 use pages::page_number;
 ghost use mathlib.Core.Path.{_≡_};
 ghost use Rattle.kinds.specs.declared.lookup.Found.the-variants.{Frame};
-ghost use Rattle.profile.specs.Walk.{allows, arriveAt, translated};
-ghost use Rattle.entries.specs.Ask.{Shaped};
-ghost use Rattle.translation.specs.Finish.{finished};
-ghost use Rattle.entries.specs.declared.ask.Way.the-variants.{Walk};
+ghost use Rattle.profile.specs.Walk.{allows, landed, byPages};
+ghost use Rattle.translation.specs.Turn.{summed};
 
-// What a DMA of a PE comes to by an entry.
+// The system address or the fault, and the count of table words read.
+pub struct Translation {
+    pub result: Translated,
+    pub words: u64,
+}
+
+// The translation of an offset by the walk of its page, the only reader of memory.
 pub fn translate(
     memory: &[u64],
     entry: TranslationEntry,
-    pe: PeNumber,
     direction: Direction,
-    address: ByteAddress,
-) -> Outcome
-    ensures { λ r. ⌜ r ≡ translated (now (memory .entry)) entry pe direction address ⌝ }
+    offset: ByteAddress,
+) -> Translation
+    ensures { λ r. ⌜ r ≡ summed (byPages (now (memory .entry)) entry direction offset) ⌝ }
 {
-    match ask(entry, address) {
-        Way::Walk(size) => finish(memory, entry, size, pe, direction, address),
-        Way::Bypass => passed(pe, offset_of(address), 0),
-        Way::BadEntry => failed(Reason::BadEntry, address, 0),
-        Way::OutsideWindow => failed(Reason::OutsideWindow, address, 0),
+    let size = size_of(entry);
+    let page = page_number(size, offset);
+    let walked = walk_page(memory, entry, page);
+    let found = walked.found;
+    let result = land(size, direction, offset, found);
+    Translation {
+        result,
+        words: walked.words,
     }
 }
 
-// What it comes to by the walk of its page, the only reader of memory.
-fn finish(
-    memory: &[u64],
-    entry: TranslationEntry,
-    size: PageSize,
-    pe: PeNumber,
-    direction: Direction,
-    address: ByteAddress,
-) -> Outcome
-    requires { ⌜ Shaped entry ⌝ }
-    ensures { λ r. ⌜ r ≡ finished (now (memory .entry)) entry pe direction address (Walk size) ⌝ }
-{
-    let page = page_number(size, offset_of(address));
-    let walked = walk(memory, entry, page);
-    let found = walked.found;
-    arrive(size, direction, pe, address, found, walked.words)
-}
-
-// What it comes to by what a walk found. No memory is lent.
-pub fn arrive(
-    size: PageSize,
-    direction: Direction,
-    pe: PeNumber,
-    address: ByteAddress,
-    found: Found,
-    words: u64,
-) -> Outcome
-    ensures { λ r. ⌜ r ≡ arriveAt size direction pe address found words ⌝ }
+// What a walk found, for an offset. No memory is lent.
+pub fn land(size: PageSize, direction: Direction, offset: ByteAddress, found: Found) -> Translated
+    ensures { λ r. ⌜ r ≡ landed size direction offset found ⌝ }
 {
     match found {
-        Found::Frame { word } => reach(size, direction, pe, address, word, words),
-        Found::Forbidden { place: _ } => failed(Reason::TableWord, address, words),
-        Found::Outside { place: _ } => failed(Reason::OutsideMemory, address, words),
+        Found::Frame { place, word } => land_in(size, direction, offset, place, word),
+        Found::Forbidden { place } => Translated::Fault {
+            reason: Reason::TableWord,
+            place,
+        },
+        Found::Outside { place } => Translated::Fault {
+            reason: Reason::OutsideMemory,
+            place,
+        },
     }
 }
 
-// What it comes to by the last table word.
-fn reach(
+// By the last table word, which is memory word `place`.
+fn land_in(
     size: PageSize,
     direction: Direction,
-    pe: PeNumber,
-    address: ByteAddress,
+    offset: ByteAddress,
+    place: u64,
     word: u64,
-    words: u64,
-) -> Outcome
-    ensures { λ r. ⌜ r ≡ arriveAt size direction pe address (Frame word) words ⌝ }
+) -> Translated
+    ensures { λ r. ⌜ r ≡ landed size direction offset (Frame place word) ⌝ }
 {
     if allows(direction, word) {
         let frame = page_number(size, ByteAddress(word));
-        return passed(pe, byte_address(size, frame, offset_of(address)), words);
+        return Translated::To(byte_address(size, frame, offset));
     }
-    failed(Reason::TableWord, address, words)
+    Translated::Fault {
+        reason: Reason::TableWord,
+        place,
+    }
 }
 
 // Bit 0 is read-valid, bit 1 write-valid.
-fn allows(direction: Direction, word: u64) -> bool
+pub fn allows(direction: Direction, word: u64) -> bool
     ensures { λ r. ⌜ r ≡ allows direction word ⌝ }
 {
     match direction {

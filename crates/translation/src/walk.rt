@@ -4,15 +4,15 @@ use kinds::number::ByteAddress;
 use kinds::number::PageNumber;
 use kinds::record::TranslationEntry;
 use page_tables::aligned;
+use page_tables::is_small;
 use profile::limits::CODE_BITS;
 ghost use mathlib.Core.Path.{_≡_};
 ghost use Prim.Native.Nat.{_*_, _<_, _≤_};
-ghost use Rattle.profile.specs.Walk.{place, nextBase, walk};
-ghost use Rattle.entries.specs.Ask.{Shaped};
-ghost use Rattle.translation.specs.Turn.{next, stepped, counted};
+ghost use Rattle.profile.specs.Walk.{place, nextBase, walk, walkedPage};
+ghost use Rattle.translation.specs.Turn.{Shaped, next, stepped, counted};
 
 // What a walk found, and the count of words that it read.
-pub(crate) struct Walked {
+pub struct Walked {
     pub found: Found,
     pub words: u64,
 }
@@ -24,7 +24,7 @@ pub(crate) enum Next {
 }
 
 // The number of the memory word that a page has in the table at `base`, with `below` levels below it.
-fn place(below: u64, bits: u64, base: ByteAddress, page: PageNumber) -> usize
+pub(crate) fn place(below: u64, bits: u64, base: ByteAddress, page: PageNumber) -> usize
     requires { ⌜ (bits ≤ 39) × (bits * below < 64) ⌝ }
     ensures { λ r. ⌜ r ≡ place below bits base page ⌝ }
 {
@@ -40,13 +40,13 @@ fn next_base(word: u64) -> ByteAddress
 }
 
 // What the word at a place comes to, with `below` levels below its table.
-fn turn(below: u64, bits: u64, place: u64, word: u64) -> Next
+pub(crate) fn turn(below: u64, bits: u64, place: u64, word: u64) -> Next
     requires { ⌜ bits ≤ 39 ⌝ }
     ensures { λ r. ⌜ r ≡ next below bits place word ⌝ }
 {
     if below == 0 {
         return Next::End {
-            found: Found::Frame { word },
+            found: Found::Frame { place, word },
             words: 1,
         };
     }
@@ -67,7 +67,13 @@ fn turn(below: u64, bits: u64, place: u64, word: u64) -> Next
 }
 
 // One level of the walk, with `below` levels below it.
-fn step(memory: &[u64], below: u64, bits: u64, base: ByteAddress, page: PageNumber) -> Next
+pub(crate) fn step(
+    memory: &[u64],
+    below: u64,
+    bits: u64,
+    base: ByteAddress,
+    page: PageNumber,
+) -> Next
     requires { ⌜ (bits ≤ 39) × (bits * below < 64) ⌝ }
     ensures { λ r. ⌜ r ≡ stepped (now (memory .entry)) below bits base page ⌝ }
 {
@@ -81,8 +87,8 @@ fn step(memory: &[u64], below: u64, bits: u64, base: ByteAddress, page: PageNumb
     turn(below, bits, at as u64, memory[at])
 }
 
-// The walk of a page by an entry.
-pub(crate) fn walk(memory: &[u64], entry: TranslationEntry, page: PageNumber) -> Walked
+// The walk of a page by an entry whose table can be walked.
+fn walk(memory: &[u64], entry: TranslationEntry, page: PageNumber) -> Walked
     requires { ⌜ Shaped entry ⌝ }
     ensures { λ r. ⌜ r ≡ counted (walk (now (memory .entry)) entry page) ⌝ }
 {
@@ -108,5 +114,18 @@ pub(crate) fn walk(memory: &[u64], entry: TranslationEntry, page: PageNumber) ->
     Walked {
         found: Found::Forbidden { place: 0 },
         words,
+    }
+}
+
+// The walk of a page by any entry; by one whose table cannot be walked nothing is read.
+pub fn walk_page(memory: &[u64], entry: TranslationEntry, page: PageNumber) -> Walked
+    ensures { λ r. ⌜ r ≡ counted (walkedPage (now (memory .entry)) entry page) ⌝ }
+{
+    if is_small(entry) {
+        return walk(memory, entry, page);
+    }
+    Walked {
+        found: Found::Forbidden { place: 0 },
+        words: 0,
     }
 }

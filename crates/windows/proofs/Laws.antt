@@ -15,7 +15,7 @@ use mir.Syntax.{w64}
 use lib.Dec.{leb, ltb, eqb}
 use borrow.Author.Tests.{leb-true, ltb-true}
 use Rattle.kinds.specs.Tests.{and-left, and-right}
-use Rattle.kinds.specs.Words.{at}
+use Rattle.kinds.specs.Words.{at, peAt}
 use Rattle.kinds.specs.declared.lookup.Hit.{Hit}
 use Rattle.kinds.specs.declared.lookup.Hit.the-variants.{At, Miss}
 use Rattle.kinds.specs.declared.number.ByteAddress.{ByteAddress}
@@ -23,7 +23,7 @@ use Rattle.kinds.specs.declared.record.Window.{Window}
 use Rattle.open_windows.proofs.Laws.{m32-power, m64-power}
 use Rattle.open_windows.proofs.Powers.{wider}
 use Rattle.open_windows.specs.Size.{WindowSize}
-use Rattle.profile.specs.Windows.{isPower, covers, segmentOf, m32Open, m64Open, m64Pe, window, m64, m64From, route}
+use Rattle.profile.specs.Windows.{isPower, covers, segmentOf, m32Open, m64Open, m64Pe, m32Words, m64Words, m64Count, window, m64, m64From, route}
 use Rattle.windows.specs.Takes.{m32Takes, m64Takes}
 
 -- what the code asks first stands last in the definition
@@ -44,7 +44,7 @@ module _ {p : Bool} (b n c : ℕ) (a : ByteAddress) (e : p ≡ covers b n a) whe
   unfolding m32Takes
   m32-away h = and-false (m32Open b n c) e h
 
-module _ {p : Bool} {b n : ℕ} (ws : List ℕ) (k : ℕ) (a : ByteAddress) (f : b ≡ at ws (3 + k * 4)) (g : n ≡ at ws (3 + (k * 4 + 1))) (e : p ≡ covers b n a) where
+module _ {p : Bool} {b n : ℕ} (ws : List ℕ) (k : ℕ) (a : ByteAddress) (f : b ≡ at ws (m32Words + k * m64Words)) (g : n ≡ at ws (m32Words + (k * m64Words + 1))) (e : p ≡ covers b n a) where
   pub m64-takes : {r : Bool} {w : Window} → p ≡ true → w ≡ window ws k → r ≡ m64Open w → r ≡ m64Takes (window ws k) a
   unfolding m64Takes
   m64-takes h v o = and-true (m64Open (window ws k)) (rw (f, g) at e) h (rw v at o)
@@ -53,7 +53,7 @@ module _ {p : Bool} {b n : ℕ} (ws : List ℕ) (k : ℕ) (a : ByteAddress) (f :
   unfolding m64Takes
   m64-away h = and-false (m64Open (window ws k)) (rw (f, g) at e) h
 
-pub window-is : {b n m p : ℕ} (ws : List ℕ) (k : ℕ) → b ≡ at ws (3 + k * 4) → n ≡ at ws (3 + (k * 4 + 1)) → m ≡ at ws (3 + (k * 4 + 2)) → p ≡ at ws (3 + (k * 4 + 3))
+pub window-is : {b n m p : ℕ} (ws : List ℕ) (k : ℕ) → b ≡ at ws (m32Words + k * m64Words) → n ≡ at ws (m32Words + (k * m64Words + 1)) → m ≡ at ws (m32Words + (k * m64Words + 2)) → p ≡ peAt ws (m32Words + (k * m64Words + 3))
     → _≡_ {A = Window} (record { base = b; size = n; mode = m; pe = p }) (window ws k)
 window-is ws k e f g h = rw (e, f, g, h)
 
@@ -81,7 +81,7 @@ module _ (b n c : ℕ) (a : ByteAddress) (h : m32Takes b n c a ≡ true) where
   pub m32-sized : WindowSize n
   m32-sized = wider 20 50 n (omega arith) (omega arith) (m32-power n m32-is-power)
 
-  pub m32-hits : {i v : ℕ} (ss : List ℕ) → i ≡ segmentOf b n a → v ≡ at ss i → At v (record { 0 = a .0 - b + c }) ≡ At (at ss (segmentOf b n a)) (record { 0 = a .0 - b + c })
+  pub m32-hits : {i v : ℕ} (ss : List ℕ) → i ≡ segmentOf b n a → v ≡ peAt ss i → At v (record { 0 = a .0 - b + c }) ≡ At (peAt ss (segmentOf b n a)) (record { 0 = a .0 - b + c })
   m32-hits ss e f = rw (f, e)
 
   pub m32-moved : Fits w64 (a .0 - b + c)
@@ -118,28 +118,28 @@ unfolding m64From m64 m64Takes
 from-suc ws zero k a h = absurd (omega arith)
 from-suc ws (suc n) k a h = rw (sub-one (suc n))
 
--- n windows are left, from number 16 - n on
-module _ (ws : List ℕ) (n : ℕ) (a : ByteAddress) (i : m64From ws 16 0 a ≡ m64From ws n (16 - n) a) where
-  module _ {p : Bool} (some : 0 < n) (few : n ≤ 16) (e : p ≡ m64Takes (window ws (16 - n)) a) where
-    from-here : m64From ws 16 0 a ≡ cond p (At (m64Pe (window ws (16 - n)) a) a) (m64From ws (n - 1) (16 - (n - 1)) a)
+-- n windows are left, from number m64Count - n on
+module _ (ws : List ℕ) (n : ℕ) (a : ByteAddress) (i : m64From ws m64Count 0 a ≡ m64From ws n (m64Count - n) a) where
+  module _ {p : Bool} (some : 0 < n) (few : n ≤ m64Count) (e : p ≡ m64Takes (window ws (m64Count - n)) a) where
+    from-here : m64From ws m64Count 0 a ≡ cond p (At (m64Pe (window ws (m64Count - n)) a) a) (m64From ws (n - 1) (m64Count - (n - 1)) a)
     from-here =
-        let on : 16 - n + 1 ≡ 16 - (n - 1) = omega arith in
-        i ∙ from-suc ws n (16 - n) a some ∙ rw (← e, on)
+        let on : m64Count - n + 1 ≡ m64Count - (n - 1) = omega arith in
+        i ∙ from-suc ws n (m64Count - n) a some ∙ rw (← e, on)
 
-    pub from-hit : {j : ℕ} {w : Window} → p ≡ true → w ≡ window ws (16 - n) → j ≡ m64Pe w a → At j a ≡ m64From ws 16 0 a
+    pub from-hit : {j : ℕ} {w : Window} → p ≡ true → w ≡ window ws (m64Count - n) → j ≡ m64Pe w a → At j a ≡ m64From ws m64Count 0 a
     from-hit h v f = rw (f ∙ ap (λ (x : Window). m64Pe x a) v) (sym (rw h at from-here))
 
-    pub from-next : p ≡ false → m64From ws 16 0 a ≡ m64From ws (n - 1) (16 - (n - 1)) a
+    pub from-next : p ≡ false → m64From ws m64Count 0 a ≡ m64From ws (n - 1) (m64Count - (n - 1)) a
     from-next h = rw h at from-here
 
-  pub from-end : n ≤ 0 → Miss ≡ m64From ws 16 0 a
-  from-end h = let none : n ≡ 0 = omega arith in sym (i ∙ ap (λ (m : ℕ). m64From ws m (16 - n) a) none ∙ from-zero ws (16 - n) a)
+  pub from-end : n ≤ 0 → Miss ≡ m64From ws m64Count 0 a
+  from-end h = let none : n ≡ 0 = omega arith in sym (i ∙ ap (λ (m : ℕ). m64From ws m (m64Count - n) a) none ∙ from-zero ws (m64Count - n) a)
 
 module _ {p : Bool} {b n c : ℕ} {r : Hit} (ws ss : List ℕ) (a : ByteAddress) (f : b ≡ at ws 0) (g : n ≡ at ws 1) (h : c ≡ at ws 2) (e : p ≡ m32Takes b n c a) where
-  pub route-m32 : p ≡ true → r ≡ At (at ss (segmentOf b n a)) (record { 0 = a .0 - b + c }) → r ≡ route ws ss a
+  pub route-m32 : p ≡ true → r ≡ At (peAt ss (segmentOf b n a)) (record { 0 = a .0 - b + c }) → r ≡ route ws ss a
   unfolding route m32Takes
   route-m32 t o = rw (← f, ← g, ← h, ← e, t) o
 
-  pub route-m64 : p ≡ false → r ≡ m64From ws 16 0 a → r ≡ route ws ss a
+  pub route-m64 : p ≡ false → r ≡ m64From ws m64Count 0 a → r ≡ route ws ss a
   unfolding route m32Takes
   route-m64 t o = rw (← f, ← g, ← h, ← e, t) o

@@ -11,7 +11,7 @@ ghost use mathlib.Core.Bool.{true};
 ghost use Prim.Native.Nat.{_+_, _-_, _<_, _≤_};
 ghost use lib.Dec.{ltb};
 ghost use Rattle.kinds.specs.declared.lookup.Hit.the-variants.{At};
-ghost use Rattle.kinds.specs.Words.{at};
+ghost use Rattle.kinds.specs.Words.{peAt};
 ghost use Rattle.open_windows.specs.Size.{WindowSize};
 ghost use Rattle.profile.specs.Windows.{m64Count, covers, segmentOf, m64Pe, window, m64From, route};
 ghost use Rattle.windows.specs.Takes.{m32Takes, m64Takes};
@@ -64,11 +64,11 @@ fn m32_takes(base: u64, size: u64, pci: u64, address: ByteAddress) -> bool
 // The PE of the segment, and the offset moved to the PCI base.
 fn m32_hit(segments: &[u16], base: u64, size: u64, pci: u64, address: ByteAddress) -> Hit
     requires { ⌜ m32Takes base size pci address ≡ true ⌝ }
-    ensures { λ r. ⌜ r ≡ At (at (now (segments .entry)) (segmentOf base size address)) (record { 0 = address .0 - base + pci }) ⌝ }
+    ensures { λ r. ⌜ r ≡ At (peAt (now (segments .entry)) (segmentOf base size address)) (record { 0 = address .0 - base + pci }) ⌝ }
 {
     let index = segment(base, size, address) as usize;
     Hit::At {
-        pe: words::short_word(segments, index),
+        pe: words::short_pe_word(segments, index),
         pci: ByteAddress(address.0 - base + pci),
     }
 }
@@ -83,7 +83,7 @@ fn m64_at(windows: &[u64], k: usize) -> Window
         base: words::word(windows, M32_WORDS + row),
         size: words::word(windows, M32_WORDS + (row + 1)),
         mode: words::word(windows, M32_WORDS + (row + 2)),
-        pe: words::word(windows, M32_WORDS + (row + 3)),
+        pe: words::pe_word(windows, M32_WORDS + (row + 3)),
     }
 }
 

@@ -9,14 +9,14 @@ use lib.Seq.{sets}
 use Rattle.kinds.specs.Answer.{numbered}
 use Rattle.kinds.specs.declared.answer.Answer.{Answer}
 use Rattle.kinds.specs.declared.answer.Numbers.{Numbers}
-use Rattle.layout.specs.declared.Decoded.{Decoded}
-use Rattle.layout.specs.declared.Decoded.the-variants.{Unnamed}
+use Rattle.kinds.specs.declared.request.Request.{Request}
+use Rattle.kinds.specs.declared.request.Request.the-variants.{Unnamed}
 use Rattle.layout.specs.Layout.{decodedFrom, requestIn, written, writtenIn, requestWords, answerWords}
 
 -- ---- a request of a list of words
 
 module _ (l : List ℕ) (k : ℕ) {n : ℕ} (e : n ≡ length l / requestWords) where
-  pub request-read : {d : Decoded} → k < n → d ≡ decodedFrom l (k * requestWords) → d ≡ requestIn l k
+  pub request-read : {d : Request} → k < n → d ≡ decodedFrom l (k * requestWords) → d ≡ requestIn l k
   unfolding requestIn
   request-read h g = g ∙ rw (← e, lt-ltb k n h)
 

@@ -1,8 +1,8 @@
 // Requests and answers in lists of words: request k is read, and answer k written.
 use answers;
 use kinds::answer::Answer;
+use kinds::request::Request;
 use layout;
-use layout::Decoded;
 ghost use mathlib.Core.Path.{_≡_};
 ghost use mathlib.Core.List.{[], _∷_};
 ghost use Prim.Native.Nat.{_+_, _≤_};
@@ -11,7 +11,7 @@ ghost use lib.Seq.{sets};
 ghost use Rattle.layout.specs.Layout.{decodedFrom, requestIn, requestWords, writtenIn};
 
 // The request whose words stand from place `first`.
-fn request_from(requests: &[u64], first: usize) -> Decoded
+fn request_from(requests: &[u64], first: usize) -> Request
     requires { ⌜ first + requestWords ≤ length (now requests) ⌝ }
     ensures { λ r. ⌜ r ≡ decodedFrom (now (requests .entry)) first ⌝ }
 {
@@ -26,13 +26,13 @@ fn request_from(requests: &[u64], first: usize) -> Decoded
 }
 
 // Request `k` of a list of words; none where its words are not all there.
-pub fn request_at(requests: &[u64], k: usize) -> Decoded
+pub fn request_at(requests: &[u64], k: usize) -> Request
     ensures { λ r. ⌜ r ≡ requestIn (now (requests .entry)) k ⌝ }
 {
     if k < requests.len() / layout::REQUEST_WORDS {
         return request_from(requests, k * layout::REQUEST_WORDS);
     }
-    Decoded::Unnamed
+    Request::Unnamed
 }
 
 // Four words, from place `at` of a list.

@@ -1,4 +1,5 @@
 -- `accesses::access_of` meets its contract. Assumes nothing.
+use Rattle.owners.specs.ByOwnerLaws as by-owner
 use Rattle.accesses.proofs.Laws as laws
 use borrow.Author.Needs.{needs}
 use Rattle.accesses.proofs.access_of.Statement.{statement}
@@ -16,17 +17,20 @@ stop-word-requires c κs = search needs
 access-requires : tie.Need-access-requires
 access-requires c κs = search needs
 
-returns : tie.Need-returns
-returns c = search laws.access-owned
+kept-requires : tie.Need-kept-requires
+kept-requires c κs = search needs
 
 enum-known-reason : tie.Need-enum-known-reason
 enum-known-reason c = search needs
 
-refused-requires : tie.Need-refused-requires
-refused-requires c κs = search needs
+refuse-requires : tie.Need-refuse-requires
+refuse-requires c κs = search needs
+
+returns : tie.Need-returns
+returns c = search (by-owner.of-pe, laws.by-stop-word)
 
 returns-2 : tie.Need-returns-2
-returns-2 c = search laws.access-nobody
+returns-2 c = search by-owner.of-nobody
 
 pub access-of-spec : {M : Type 1} → statement M
 access-of-spec =
@@ -36,7 +40,8 @@ access-of-spec =
     enum-known-pe
     stop-word-requires
     access-requires
-    returns
+    kept-requires
     enum-known-reason
-    refused-requires
+    refuse-requires
+    returns
     returns-2)

@@ -1,7 +1,6 @@
 -- `firmware_requests::clear` meets its contract. Assumes nothing.
-use Rattle.profile.specs.Step.{ask, finish}
-use Rattle.profile.specs.Owner.{owner}
-use Rattle.firmware_requests.specs.PromiseLaws as promise
+use Rattle.owners.specs.ByOwnerLaws as by-owner
+use Rattle.firmware_requests.proofs.Laws as laws
 use borrow.Author.Needs.{needs}
 use Rattle.firmware_requests.proofs.clear.Statement.{statement}
 use Rattle.firmware_requests.proofs.clear.Tie as tie
@@ -9,34 +8,36 @@ use Rattle.firmware_requests.proofs.clear.Tie as tie
 named-pe-requires : tie.Need-named-pe-requires
 named-pe-requires c κs = search needs
 
-enum-told : tie.Need-enum-told
-enum-told c = search needs
+enum-known-pe : tie.Need-enum-known-pe
+enum-known-pe c = search needs
 
 done-requires : tie.Need-done-requires
 done-requires c κs = search needs
 
-returns : tie.Need-returns
-unfolding owner ask finish
-returns c = search promise.of-owner
+ready-requires : tie.Need-ready-requires
+ready-requires c κs = search needs
 
 enum-known-reason : tie.Need-enum-known-reason
 enum-known-reason c = search needs
 
-refused-requires : tie.Need-refused-requires
-refused-requires c κs = search needs
+refuse-requires : tie.Need-refuse-requires
+refuse-requires c κs = search needs
+
+returns : tie.Need-returns
+returns c = search (by-owner.of-pe, laws.cleared)
 
 returns-2 : tie.Need-returns-2
-unfolding owner
-returns-2 c = search promise.of-nobody
+returns-2 c = search by-owner.of-nobody
 
 pub clear-spec : {M : Type 1} → statement M
 clear-spec =
     tie.close
     (tie.spec
     named-pe-requires
-    enum-told
+    enum-known-pe
     done-requires
-    returns
+    ready-requires
     enum-known-reason
-    refused-requires
+    refuse-requires
+    returns
     returns-2)

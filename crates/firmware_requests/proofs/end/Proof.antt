@@ -1,6 +1,5 @@
 -- `firmware_requests::end` meets its contract. Assumes nothing.
-use Rattle.profile.specs.Owner.{owner}
-use Rattle.firmware_requests.specs.PromiseLaws as promise
+use Rattle.owners.specs.ByOwnerLaws as by-owner
 use Rattle.firmware_requests.proofs.Laws as laws
 use borrow.Author.Needs.{needs}
 use Rattle.firmware_requests.proofs.end.Statement.{statement}
@@ -9,8 +8,8 @@ use Rattle.firmware_requests.proofs.end.Tie as tie
 of-interrupt-requires : tie.Need-of-interrupt-requires
 of-interrupt-requires c κs = search needs
 
-enum-told : tie.Need-enum-told
-enum-told c = search needs
+enum-known-pe : tie.Need-enum-known-pe
+enum-known-pe c = search needs
 
 interrupt-at-requires : tie.Need-interrupt-at-requires
 interrupt-at-requires c κs = search needs
@@ -18,28 +17,31 @@ interrupt-at-requires c κs = search needs
 end-requires : tie.Need-end-requires
 end-requires c κs = search needs
 
-returns : tie.Need-returns
-returns c = search laws.ended
+ready-requires : tie.Need-ready-requires
+ready-requires c κs = search needs
 
 enum-known-reason : tie.Need-enum-known-reason
 enum-known-reason c = search needs
 
-refused-requires : tie.Need-refused-requires
-refused-requires c κs = search needs
+refuse-requires : tie.Need-refuse-requires
+refuse-requires c κs = search needs
+
+returns : tie.Need-returns
+returns c = search (by-owner.of-pe, laws.ended)
 
 returns-2 : tie.Need-returns-2
-unfolding owner
-returns-2 c = search promise.of-nobody
+returns-2 c = search by-owner.of-nobody
 
 pub end-spec : {M : Type 1} → statement M
 end-spec =
     tie.close
     (tie.spec
     of-interrupt-requires
-    enum-told
+    enum-known-pe
     interrupt-at-requires
     end-requires
-    returns
+    ready-requires
     enum-known-reason
-    refused-requires
+    refuse-requires
+    returns
     returns-2)

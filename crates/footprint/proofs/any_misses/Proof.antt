@@ -15,6 +15,9 @@ Inv-loop group entries memory marks left₀ left = (left ≤ mostPes) × (any mo
 abbrev μ-loop : tie.MeasureT-loop
 μ-loop group entries memory marks left₀ left = left
 
+cast-left : tie.Need-cast-left Inv-loop μ-loop
+cast-left c = search needs
+
 loop-holds : tie.Need-loop-holds Inv-loop μ-loop
 loop-holds c = search needs
 
@@ -45,6 +48,7 @@ any-misses-spec =
     (tie.spec
     Inv-loop
     μ-loop
+    cast-left
     loop-holds
     sub-k
     pe-misses-requires

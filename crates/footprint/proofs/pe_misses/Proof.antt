@@ -7,9 +7,6 @@ use Rattle.footprint.proofs.pe_misses.Tie as tie
 is-member-requires : tie.Need-is-member-requires
 is-member-requires c κs = search needs
 
-cast-t10 : tie.Need-cast-t10
-cast-t10 c = search needs
-
 entry-of-requires : tie.Need-entry-of-requires
 entry-of-requires c κs = search needs
 
@@ -18,9 +15,6 @@ entry-misses-requires c κs = search needs
 
 returns : tie.Need-returns
 returns c = search laws.pe-first
-
-cast-t10-2 : tie.Need-cast-t10-2
-cast-t10-2 c = search needs
 
 entry-of-requires-2 : tie.Need-entry-of-requires-2
 entry-of-requires-2 c κs = search needs
@@ -39,11 +33,9 @@ pe-misses-spec =
     tie.close
     (tie.spec
     is-member-requires
-    cast-t10
     entry-of-requires
     entry-misses-requires
     returns
-    cast-t10-2
     entry-of-requires-2
     entry-misses-requires-2
     returns-2

@@ -7,26 +7,26 @@ use Rattle.interrupts.proofs.interrupt_at.Tie as tie
 mul-first : tie.Need-mul-first
 mul-first c = search needs
 
-word-requires : tie.Need-word-requires
-word-requires c κs = search needs
+pe-word-requires : tie.Need-pe-word-requires
+pe-word-requires c κs = search needs
 
 add-word : tie.Need-add-word
 add-word c = search needs
 
-word-requires-2 : tie.Need-word-requires-2
-word-requires-2 c κs = search needs
+word-requires : tie.Need-word-requires
+word-requires c κs = search needs
 
 add-word-2 : tie.Need-add-word-2
 add-word-2 c = search needs
 
-word-requires-3 : tie.Need-word-requires-3
-word-requires-3 c κs = search needs
+word-requires-2 : tie.Need-word-requires-2
+word-requires-2 c κs = search needs
 
 add-word-3 : tie.Need-add-word-3
 add-word-3 c = search needs
 
-word-requires-4 : tie.Need-word-requires-4
-word-requires-4 c κs = search needs
+word-requires-3 : tie.Need-word-requires-3
+word-requires-3 c κs = search needs
 
 returns : tie.Need-returns
 returns c = search laws.words-in
@@ -39,12 +39,12 @@ interrupt-at-spec =
     tie.close
     (tie.spec
     mul-first
-    word-requires
+    pe-word-requires
     add-word
-    word-requires-2
+    word-requires
     add-word-2
-    word-requires-3
+    word-requires-2
     add-word-3
-    word-requires-4
+    word-requires-3
     returns
     returns-2)

@@ -7,8 +7,8 @@ use Rattle.interrupts.proofs.store.Tie as tie
 mul-first : tie.Need-mul-first
 mul-first c = search needs
 
-word-requires : tie.Need-word-requires
-word-requires c κs = search needs
+pe-word-requires : tie.Need-pe-word-requires
+pe-word-requires c κs = search needs
 
 cast-if2 : tie.Need-cast-if2
 cast-if2 c = search needs
@@ -45,7 +45,7 @@ store-spec =
     tie.close
     (tie.spec
     mul-first
-    word-requires
+    pe-word-requires
     cast-if2
     add-put
     put-requires

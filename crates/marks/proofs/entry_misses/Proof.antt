@@ -4,23 +4,23 @@ use borrow.Author.Needs.{needs}
 use Rattle.marks.proofs.entry_misses.Statement.{statement}
 use Rattle.marks.proofs.entry_misses.Tie as tie
 
-is-paged-requires : tie.Need-is-paged-requires
-is-paged-requires c κs = search needs
+has-pages-requires : tie.Need-has-pages-requires
+has-pages-requires c κs = search needs
 
 add-bits : tie.Need-add-bits
-add-bits c = search laws.paged-fits
+add-bits c = search laws.bits-fit
 
 sub-below : tie.Need-sub-below
-sub-below c = search laws.paged-some
+sub-below c = search laws.some-level
 
 table-misses-requires : tie.Need-table-misses-requires
-table-misses-requires c κs = search (laws.paged-bits, laws.paged-under)
+table-misses-requires c κs = search (laws.bits-most, laws.below-fits)
 
 returns : tie.Need-returns
 returns c = search laws.entry-root
 
 levels-miss-requires : tie.Need-levels-miss-requires
-levels-miss-requires c κs = search (laws.paged-bits, laws.paged-few)
+levels-miss-requires c κs = search (laws.bits-most, laws.few-below)
 
 returns-2 : tie.Need-returns-2
 returns-2 c = search laws.entry-levels
@@ -32,7 +32,7 @@ pub entry-misses-spec : {M : Type 1} → statement M
 entry-misses-spec =
     tie.close
     (tie.spec
-    is-paged-requires
+    has-pages-requires
     add-bits
     sub-below
     table-misses-requires

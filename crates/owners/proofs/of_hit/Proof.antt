@@ -1,6 +1,6 @@
 -- `owners::of_hit` meets its contract. Assumes nothing.
-use borrow.Author.Needs.{needs}
 use Rattle.owners.proofs.OwnerLaws as laws
+use borrow.Author.Needs.{needs}
 use Rattle.owners.proofs.of_hit.Statement.{statement}
 use Rattle.owners.proofs.of_hit.Tie as tie
 
@@ -10,17 +10,14 @@ enum-known-hit c = search needs
 named-pe-requires : tie.Need-named-pe-requires
 named-pe-requires c κs = search needs
 
-returns : tie.Need-returns
-returns c = search laws.hit-found
-
 enum-told : tie.Need-enum-told
 enum-told c = search needs
 
-nobody-requires : tie.Need-nobody-requires
-nobody-requires c κs = search needs
+returns : tie.Need-returns
+returns c = search laws.hit-found
 
 returns-2 : tie.Need-returns-2
 returns-2 c = search laws.hit-missed
 
 pub of-hit-spec : {M : Type 1} → statement M
-of-hit-spec = tie.close (tie.spec enum-known-hit named-pe-requires returns enum-told nobody-requires returns-2)
+of-hit-spec = tie.close (tie.spec enum-known-hit named-pe-requires enum-told returns returns-2)

@@ -1,6 +1,6 @@
 -- `owners::owner_of` meets its contract. Assumes nothing.
-use Rattle.profile.specs.Owner.{owner}
 use Rattle.owners.proofs.OwnerLaws as laws
+use Rattle.profile.specs.Owner.{ownerIn}
 use borrow.Author.Needs.{needs}
 use Rattle.owners.proofs.owner_of.Statement.{statement}
 use Rattle.owners.proofs.owner_of.Tie as tie
@@ -11,10 +11,6 @@ enum-known-request c = search needs
 of-requester-requires : tie.Need-of-requester-requires
 of-requester-requires c κs = search needs
 
-returns : tie.Need-returns
-unfolding owner
-returns c = search laws.owner-case
-
 enum-known-request-2 : tie.Need-enum-known-request-2
 enum-known-request-2 c = search needs
 
@@ -23,9 +19,6 @@ route-requires c κs = search needs
 
 of-hit-requires : tie.Need-of-hit-requires
 of-hit-requires c κs = search needs
-
-returns-2 : tie.Need-returns-2
-returns-2 c = search laws.load-owner
 
 enum-known-request-3 : tie.Need-enum-known-request-3
 enum-known-request-3 c = search needs
@@ -36,18 +29,11 @@ route-requires-2 c κs = search needs
 of-hit-requires-2 : tie.Need-of-hit-requires-2
 of-hit-requires-2 c κs = search needs
 
-returns-3 : tie.Need-returns-3
-returns-3 c = search laws.store-owner
-
 enum-known-request-4 : tie.Need-enum-known-request-4
 enum-known-request-4 c = search needs
 
 of-requester-requires-2 : tie.Need-of-requester-requires-2
 of-requester-requires-2 c κs = search needs
-
-returns-4 : tie.Need-returns-4
-unfolding owner
-returns-4 c = search laws.owner-case
 
 enum-known-request-5 : tie.Need-enum-known-request-5
 enum-known-request-5 c = search needs
@@ -55,19 +41,11 @@ enum-known-request-5 c = search needs
 named-pe-requires : tie.Need-named-pe-requires
 named-pe-requires c κs = search needs
 
-returns-5 : tie.Need-returns-5
-unfolding owner
-returns-5 c = search laws.owner-case
-
 enum-known-request-6 : tie.Need-enum-known-request-6
 enum-known-request-6 c = search needs
 
 of-interrupt-requires : tie.Need-of-interrupt-requires
 of-interrupt-requires c κs = search needs
-
-returns-6 : tie.Need-returns-6
-unfolding owner
-returns-6 c = search laws.owner-case
 
 enum-known-request-7 : tie.Need-enum-known-request-7
 enum-known-request-7 c = search needs
@@ -75,9 +53,40 @@ enum-known-request-7 c = search needs
 of-interrupt-requires-2 : tie.Need-of-interrupt-requires-2
 of-interrupt-requires-2 c κs = search needs
 
+enum-told : tie.Need-enum-told
+enum-told c = search needs
+
+returns : tie.Need-returns
+unfolding ownerIn
+returns c = search laws.owner-case
+
+returns-2 : tie.Need-returns-2
+unfolding ownerIn
+returns-2 c = search laws.hit-case
+
+returns-3 : tie.Need-returns-3
+unfolding ownerIn
+returns-3 c = search laws.hit-case
+
+returns-4 : tie.Need-returns-4
+unfolding ownerIn
+returns-4 c = search laws.owner-case
+
+returns-5 : tie.Need-returns-5
+unfolding ownerIn
+returns-5 c = search laws.owner-case
+
+returns-6 : tie.Need-returns-6
+unfolding ownerIn
+returns-6 c = search laws.owner-case
+
 returns-7 : tie.Need-returns-7
-unfolding owner
+unfolding ownerIn
 returns-7 c = search laws.owner-case
+
+returns-8 : tie.Need-returns-8
+unfolding ownerIn
+returns-8 c = search laws.owner-case
 
 pub owner-of-spec : {M : Type 1} → statement M
 owner-of-spec =
@@ -85,24 +94,26 @@ owner-of-spec =
     (tie.spec
     enum-known-request
     of-requester-requires
-    returns
     enum-known-request-2
     route-requires
     of-hit-requires
-    returns-2
     enum-known-request-3
     route-requires-2
     of-hit-requires-2
-    returns-3
     enum-known-request-4
     of-requester-requires-2
-    returns-4
     enum-known-request-5
     named-pe-requires
-    returns-5
     enum-known-request-6
     of-interrupt-requires
-    returns-6
     enum-known-request-7
     of-interrupt-requires-2
-    returns-7)
+    enum-told
+    returns
+    returns-2
+    returns-3
+    returns-4
+    returns-5
+    returns-6
+    returns-7
+    returns-8)

@@ -1,6 +1,6 @@
 -- `sizes::other_tables` meets its contract. Assumes nothing.
+use mathlib.Core.Bool.{and-true}
 use Rattle.kinds.specs.Tests.{tests}
-use Rattle.sizes.specs.Parts.{otherTables}
 use borrow.Author.Needs.{needs}
 use Rattle.sizes.proofs.other_tables.Statement.{statement}
 use Rattle.sizes.proofs.other_tables.Tie as tie
@@ -9,30 +9,25 @@ mul-if1 : tie.Need-mul-if1
 mul-if1 c = search needs
 
 returns : tie.Need-returns
-unfolding otherTables
 returns c = search tests
 
 mul-if2 : tie.Need-mul-if2
 mul-if2 c = search needs
 
 returns-2 : tie.Need-returns-2
-unfolding otherTables
 returns-2 c = search tests
 
 returns-3 : tie.Need-returns-3
-unfolding otherTables
 returns-3 c = search tests
 
 returns-4 : tie.Need-returns-4
-unfolding otherTables
 returns-4 c = search tests
 
 mul-result : tie.Need-mul-result
 mul-result c = search needs
 
 returns-5 : tie.Need-returns-5
-unfolding otherTables
-returns-5 c = search tests
+returns-5 c = search (tests, and-true)
 
 pub other-tables-spec : {M : Type 1} → statement M
 other-tables-spec =

@@ -13,8 +13,8 @@ returns c = search laws.kept
 enum-known-effect : tie.Need-enum-known-effect
 enum-known-effect c = search needs
 
-peer-vector-requires : tie.Need-peer-vector-requires
-peer-vector-requires c κs = search needs
+taken-requires : tie.Need-taken-requires
+taken-requires c κs = search needs
 
 freeze-requires : tie.Need-freeze-requires
 freeze-requires c κs = search needs
@@ -56,7 +56,7 @@ act-at-spec =
     enum-told
     returns
     enum-known-effect
-    peer-vector-requires
+    taken-requires
     freeze-requires
     same-length
     returns-2

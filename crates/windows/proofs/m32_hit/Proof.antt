@@ -7,8 +7,8 @@ use Rattle.windows.proofs.m32_hit.Tie as tie
 segment-requires : tie.Need-segment-requires
 segment-requires c κs = search (laws.m32-from, laws.m32-sized)
 
-short-word-requires : tie.Need-short-word-requires
-short-word-requires c κs = search needs
+short-pe-word-requires : tie.Need-short-pe-word-requires
+short-pe-word-requires c κs = search needs
 
 sub-t8 : tie.Need-sub-t8
 sub-t8 c = search laws.m32-from
@@ -20,4 +20,4 @@ returns : tie.Need-returns
 returns c = search laws.m32-hits
 
 pub m32-hit-spec : {M : Type 1} → statement M
-m32-hit-spec = tie.close (tie.spec segment-requires short-word-requires sub-t8 add-t9 returns)
+m32-hit-spec = tie.close (tie.spec segment-requires short-pe-word-requires sub-t8 add-t9 returns)

@@ -31,14 +31,14 @@ add-word-5 c = search needs
 word-requires-3 : tie.Need-word-requires-3
 word-requires-3 c κs = search needs
 
-add-word-6 : tie.Need-add-word-6
-add-word-6 c = search needs
+add-pe-word : tie.Need-add-pe-word
+add-pe-word c = search needs
 
-add-word-7 : tie.Need-add-word-7
-add-word-7 c = search needs
+add-pe-word-2 : tie.Need-add-pe-word-2
+add-pe-word-2 c = search needs
 
-word-requires-4 : tie.Need-word-requires-4
-word-requires-4 c κs = search needs
+pe-word-requires : tie.Need-pe-word-requires
+pe-word-requires c κs = search needs
 
 returns : tie.Need-returns
 returns c = search laws.window-is
@@ -56,7 +56,7 @@ m64-at-spec =
     add-word-4
     add-word-5
     word-requires-3
-    add-word-6
-    add-word-7
-    word-requires-4
+    add-pe-word
+    add-pe-word-2
+    pe-word-requires
     returns)

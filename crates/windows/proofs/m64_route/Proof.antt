@@ -1,15 +1,15 @@
--- `windows::m64_route` meets its contract. The invariant: the first of the 16 M64 windows that takes the address is the first of those left.
+-- `windows::m64_route` meets its contract. The invariant: the first of all M64 windows that takes the address is the first of those left.
 -- The measure is how many are left. Assumes nothing.
 use mathlib.Core.Path.{_≡_}
 use Prim.Native.Nat.{_-_, _≤_}
 use borrow.Author.Needs.{needs}
-use Rattle.profile.specs.Windows.{m64From}
+use Rattle.profile.specs.Windows.{m64Count, m64From}
 use Rattle.windows.proofs.Laws as laws
 use Rattle.windows.proofs.m64_route.Statement.{statement}
 use Rattle.windows.proofs.m64_route.Tie as tie
 
 abbrev Inv-loop : tie.InvT-loop
-Inv-loop windows address left₀ left = (left ≤ 16) × (m64From windows 16 0 address ≡ m64From windows left (16 - left) address)
+Inv-loop windows address left₀ left = (left ≤ m64Count) × (m64From windows m64Count 0 address ≡ m64From windows left (m64Count - left) address)
 
 abbrev μ-loop : tie.MeasureT-loop
 μ-loop windows address left₀ left = left

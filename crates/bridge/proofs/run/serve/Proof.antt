@@ -7,8 +7,8 @@ use Rattle.bridge.proofs.run.serve.Tie as tie
 request-at-requires : tie.Need-request-at-requires
 request-at-requires c κs = search needs
 
-reply-requires : tie.Need-reply-requires
-reply-requires c κs = search needs
+handle-requires : tie.Need-handle-requires
+handle-requires c κs = search needs
 
 write-answer-requires : tie.Need-write-answer-requires
 write-answer-requires c κs = search needs
@@ -30,7 +30,7 @@ serve-spec =
     tie.close
     (tie.spec
     request-at-requires
-    reply-requires
+    handle-requires
     write-answer-requires
     same-length
     same-length-2

@@ -1,7 +1,6 @@
 -- `decision::decide::by_requester` meets its contract. Assumes nothing.
-use Rattle.profile.specs.Owner.{owner}
-use Rattle.firmware_requests.specs.PromiseLaws as promise
-use Rattle.decision.proofs.DecideLaws as laws
+use Rattle.owners.specs.ByOwnerLaws.{of-nobody}
+use Rattle.decision.proofs.AskLaws as laws
 use borrow.Author.Needs.{needs}
 use Rattle.decision.proofs.decide.by_requester.Statement.{statement}
 use Rattle.decision.proofs.decide.by_requester.Tie as tie
@@ -12,21 +11,20 @@ of-requester-requires c κs = search needs
 enum-known-pe : tie.Need-enum-known-pe
 enum-known-pe c = search needs
 
-dma-of-requires : tie.Need-dma-of-requires
-dma-of-requires c κs = search needs
+check-dma-requires : tie.Need-check-dma-requires
+check-dma-requires c κs = search needs
 
 returns : tie.Need-returns
-returns c = search laws.dma-owned
+returns c = search laws.by-pe
 
 enum-known-reason : tie.Need-enum-known-reason
 enum-known-reason c = search needs
 
-refused-requires : tie.Need-refused-requires
-refused-requires c κs = search needs
+refuse-requires : tie.Need-refuse-requires
+refuse-requires c κs = search needs
 
 returns-2 : tie.Need-returns-2
-unfolding owner
-returns-2 c = search promise.of-nobody
+returns-2 c = search of-nobody
 
 pub by-requester-spec : {M : Type 1} → statement M
 by-requester-spec =
@@ -34,8 +32,8 @@ by-requester-spec =
     (tie.spec
     of-requester-requires
     enum-known-pe
-    dma-of-requires
+    check-dma-requires
     returns
     enum-known-reason
-    refused-requires
+    refuse-requires
     returns-2)

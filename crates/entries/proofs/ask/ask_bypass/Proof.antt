@@ -1,6 +1,5 @@
 -- `entries::ask::ask_bypass` meets its contract. Assumes nothing.
 use Rattle.entries.proofs.EntryLaws as laws
-use borrow.Author.Needs.{needs}
 use Rattle.entries.proofs.ask.ask_bypass.Statement.{statement}
 use Rattle.entries.proofs.ask.ask_bypass.Tie as tie
 
@@ -9,9 +8,6 @@ returns c = search laws.no-range
 
 returns-2 : tie.Need-returns-2
 returns-2 c = search laws.late-end
-
-offset-of-requires : tie.Need-offset-of-requires
-offset-of-requires c κs = search needs
 
 returns-3 : tie.Need-returns-3
 returns-3 c = search laws.below-start
@@ -23,5 +19,4 @@ returns-5 : tie.Need-returns-5
 returns-5 c = search laws.in-range
 
 pub ask-bypass-spec : {M : Type 1} → statement M
-ask-bypass-spec =
-    tie.close (tie.spec returns returns-2 offset-of-requires returns-3 returns-4 returns-5)
+ask-bypass-spec = tie.close (tie.spec returns returns-2 returns-3 returns-4 returns-5)

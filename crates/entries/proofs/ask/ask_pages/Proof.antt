@@ -19,9 +19,6 @@ returns c = search laws.bad-shape
 shl-if1 : tie.Need-shl-if1
 shl-if1 c = search laws.span-below
 
-offset-of-requires : tie.Need-offset-of-requires
-offset-of-requires c κs = search needs
-
 returns-2 : tie.Need-returns-2
 returns-2 c = search laws.beyond
 
@@ -31,12 +28,4 @@ returns-3 c = search laws.walked
 pub ask-pages-spec : {M : Type 1} → statement M
 ask-pages-spec =
     tie.close
-    (tie.spec
-    shape-of-requires
-    enum-known-size
-    enum-told
-    returns
-    shl-if1
-    offset-of-requires
-    returns-2
-    returns-3)
+    (tie.spec shape-of-requires enum-known-size enum-told returns shl-if1 returns-2 returns-3)

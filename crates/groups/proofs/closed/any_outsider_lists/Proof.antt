@@ -9,7 +9,7 @@ use Rattle.groups.proofs.closed.any_outsider_lists.Statement.{statement
 use Rattle.groups.proofs.closed.any_outsider_lists.Tie as tie
 
 abbrev Inv-loop : tie.InvT-loop
-Inv-loop group peers pes left₀ left = (left ≤ pes) × (any pes (outsiderLists group peers) ≡ any left (outsiderLists group peers))
+Inv-loop group peers pes left₀ left = (left ≤ pes) × (any pes (outsiderLists group peers pes) ≡ any left (outsiderLists group peers pes))
 
 abbrev μ-loop : tie.MeasureT-loop
 μ-loop group peers pes left₀ left = left

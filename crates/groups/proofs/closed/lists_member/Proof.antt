@@ -9,10 +9,10 @@ use Rattle.groups.proofs.closed.lists_member.Statement.{statement}
 use Rattle.groups.proofs.closed.lists_member.Tie as tie
 
 abbrev Inv-loop : tie.InvT-loop
-Inv-loop group vector left₀ left = (left ≤ 256) × (any 256 (memberListed group vector) ≡ any left (memberListed group vector))
+Inv-loop group vector pes left₀ left = (left ≤ pes) × (any pes (memberListed group vector) ≡ any left (memberListed group vector))
 
 abbrev μ-loop : tie.MeasureT-loop
-μ-loop group vector left₀ left = left
+μ-loop group vector pes left₀ left = left
 
 loop-holds : tie.Need-loop-holds Inv-loop μ-loop
 loop-holds c = search needs

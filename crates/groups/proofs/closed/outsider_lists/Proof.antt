@@ -10,9 +10,6 @@ is-member-requires c κs = search needs
 returns : tie.Need-returns
 returns c = search laws.outsider-member
 
-cast-t8 : tie.Need-cast-t8
-cast-t8 c = search needs
-
 peer-vector-requires : tie.Need-peer-vector-requires
 peer-vector-requires c κs = search needs
 
@@ -31,7 +28,6 @@ outsider-lists-spec =
     (tie.spec
     is-member-requires
     returns
-    cast-t8
     peer-vector-requires
     slice-aggregate-lists-member
     lists-member-requires

@@ -4,14 +4,31 @@ use borrow.Author.Needs.{needs}
 use Rattle.groups.proofs.export.celltimber_owner.Statement.{statement}
 use Rattle.groups.proofs.export.celltimber_owner.Tie as tie
 
+returns : tie.Need-returns
+returns c = search laws.owner-past
+
+cast-owner-of : tie.Need-cast-owner-of
+cast-owner-of c = search needs
+
 decode-requires : tie.Need-decode-requires
 decode-requires c κs = search needs
 
-owner-as-requires : tie.Need-owner-as-requires
-owner-as-requires c κs = search needs
+owner-of-requires : tie.Need-owner-of-requires
+owner-of-requires c κs = search needs
 
-returns : tie.Need-returns
-returns c = search laws.owner-decoded
+owner-number-requires : tie.Need-owner-number-requires
+owner-number-requires c κs = search needs
+
+returns-2 : tie.Need-returns-2
+returns-2 c = search laws.owner-decoded
 
 pub celltimber-owner-spec : {M : Type 1} → statement M
-celltimber-owner-spec = tie.close (tie.spec decode-requires owner-as-requires returns)
+celltimber-owner-spec =
+    tie.close
+    (tie.spec
+    returns
+    cast-owner-of
+    decode-requires
+    owner-of-requires
+    owner-number-requires
+    returns-2)

@@ -10,14 +10,14 @@ enum-known-owner c = search needs
 cast-result : tie.Need-cast-result
 cast-result c = search needs
 
-returns : tie.Need-returns
-returns c = search laws.owner-of-pe
-
 enum-told : tie.Need-enum-told
 enum-told c = search needs
+
+returns : tie.Need-returns
+returns c = search laws.owner-of-pe
 
 returns-2 : tie.Need-returns-2
 returns-2 c = search laws.owner-nobody
 
 pub owner-number-spec : {M : Type 1} → statement M
-owner-number-spec = tie.close (tie.spec enum-known-owner cast-result returns enum-told returns-2)
+owner-number-spec = tie.close (tie.spec enum-known-owner cast-result enum-told returns returns-2)

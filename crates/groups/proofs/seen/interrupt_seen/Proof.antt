@@ -7,11 +7,11 @@ use Rattle.groups.proofs.seen.interrupt_seen.Tie as tie
 returns : tie.Need-returns
 returns c = search laws.interrupt-pe
 
-mul-word : tie.Need-mul-word
-mul-word c = search needs
+mul-pe-word : tie.Need-mul-pe-word
+mul-pe-word c = search needs
 
-word-requires : tie.Need-word-requires
-word-requires c κs = search needs
+pe-word-requires : tie.Need-pe-word-requires
+pe-word-requires c κs = search needs
 
 is-member-requires : tie.Need-is-member-requires
 is-member-requires c κs = search needs
@@ -21,4 +21,4 @@ returns-2 c = search laws.interrupt-own
 
 pub interrupt-seen-spec : {M : Type 1} → statement M
 interrupt-seen-spec =
-    tie.close (tie.spec returns mul-word word-requires is-member-requires returns-2)
+    tie.close (tie.spec returns mul-pe-word pe-word-requires is-member-requires returns-2)

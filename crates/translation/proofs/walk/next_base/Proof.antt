@@ -1,5 +1,5 @@
 -- `translation::walk::next_base` meets its contract. Assumes nothing.
-use Rattle.translation.proofs.StepLaws as laws
+use Rattle.translation.specs.StepLaws as laws
 use Rattle.translation.proofs.walk.next_base.Statement.{statement}
 use Rattle.translation.proofs.walk.next_base.Tie as tie
 

@@ -1,5 +1,5 @@
 -- `translation::walk::step` meets its contract. Assumes nothing.
-use Rattle.translation.proofs.StepLaws as laws
+use Rattle.translation.specs.StepLaws as laws
 use borrow.Author.Needs.{needs}
 use Rattle.translation.proofs.walk.step.Statement.{statement}
 use Rattle.translation.proofs.walk.step.Tie as tie

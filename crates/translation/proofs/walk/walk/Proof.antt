@@ -5,8 +5,8 @@ use Prim.Native.Nat.{_+_, _*_, _≤_}
 use borrow.Author.Needs.{needs}
 use Rattle.profile.specs.Walk.{walkFrom}
 use Rattle.translation.specs.Turn.{counted}
-use Rattle.translation.proofs.WalkLaws.{later}
-use Rattle.translation.proofs.WalkLaws as laws
+use Rattle.translation.specs.LoopLaws.{later}
+use Rattle.translation.specs.LoopLaws as laws
 use Rattle.translation.proofs.walk.walk.Statement.{statement}
 use Rattle.translation.proofs.walk.walk.Tie as tie
 

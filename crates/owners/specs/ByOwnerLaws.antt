@@ -1,0 +1,40 @@
+-- Laws of what a request comes to by its owner.
+--     asked-by            what is asked, in this form. With `ask` unfolded it names what a request of its kind reads and nothing else
+--     asked-case          so what is found for a request of a kind is what is asked of its owner
+--     of-pe, of-nobody    what is found by an owner that was looked up
+-- Assumes nothing.
+use mathlib.Core.Path.{_≡_, refl, sym, ap, _∙_}
+use mathlib.Core.List.{List}
+use Prim.Native.Nat.{ℕ}
+use Rattle.kinds.specs.Checked.{Checked, Kept, shown}
+use Rattle.kinds.specs.declared.answer.Answer.the-variants.{Refuse}
+use Rattle.kinds.specs.declared.answer.Reason.{Reason}
+use Rattle.kinds.specs.declared.lookup.Owner.{Owner}
+use Rattle.kinds.specs.declared.lookup.Owner.the-variants.{Of, Nobody}
+use Rattle.kinds.specs.declared.number.PeNumber.{PeNumber}
+use Rattle.kinds.specs.declared.outcome.Check.{Check}
+use Rattle.kinds.specs.declared.record.Sizes.{Sizes}
+use Rattle.kinds.specs.declared.request.Request.{Request}
+use Rattle.profile.specs.Owner.{ownerIn}
+use Rattle.profile.specs.Step.{ask, asked}
+use Rattle.profile.specs.Tables.{Live}
+use Rattle.owners.specs.ByOwner.{byOwner}
+
+module _ (z : Sizes) (q e w g : List ℕ) (s : Live) where
+  pub asked-by : (y : Request) (o : Owner) → asked z q e w g s y o ≡ byOwner (λ p. ask z q e w g s p y) o
+  unfolding asked byOwner
+  asked-by y (Of p) = refl
+  asked-by y (Nobody r) = refl
+
+  pub asked-case : {y x : Request} {r : Check} → y ≡ x → r ≡ shown (byOwner (λ p. ask z q e w g s p x) (ownerIn z q w g (s .interrupts) x))
+      → r ≡ shown (asked z q e w g s y (ownerIn z q w g (s .interrupts) y))
+  asked-case {x = x} i h = rw i (h ∙ ap shown (sym (asked-by x (ownerIn z q w g (s .interrupts) x))))
+
+module _ (k : PeNumber → Checked) (o : Owner) {i : Owner} (found : i ≡ o) where
+  pub of-pe : {p : PeNumber} {x : Check} → i ≡ Of p → x ≡ shown (k p) → x ≡ shown (byOwner k o)
+  unfolding byOwner
+  of-pe e h = rw (← found, e) h
+
+  pub of-nobody : {r : Reason} {x : Check} → i ≡ Nobody r → x ≡ shown (Kept (Refuse r 0)) → x ≡ shown (byOwner k o)
+  unfolding byOwner
+  of-nobody e h = rw (← found, e) h
