@@ -404,8 +404,8 @@ impl Modules {
         let arity = match name {
             "[]" => return Value::List(Rc::new(Vec::new())),
             "suc" => 1,
-            "map" | "replicate" => 2,
-            "set" => 3,
+            "map" | "replicate" | "eqb" => 2,
+            "set" | "cond" => 3,
             _ => return Value::Variant(name.to_string(), Vec::new()),
         };
         Value::Function(Rc::new(Function::Given { name: name.to_string(), arity }), Vec::new())
@@ -457,6 +457,14 @@ impl Modules {
     fn given(&self, name: &str, arguments: &[Value]) -> Value {
         let items = match name {
             "suc" => return Value::Number(arguments[0].number() + 1),
+            "eqb" => {
+                let equal = arguments[0].number() == arguments[1].number();
+                return Value::Variant(equal.to_string(), Vec::new());
+            }
+            "cond" => {
+                let holds = arguments[0].variant().0 == "true";
+                return arguments[if holds { 1 } else { 2 }].clone();
+            }
             "replicate" => vec![arguments[1].clone(); arguments[0].number() as usize],
             "set" => {
                 let mut items = arguments[0].list().to_vec();

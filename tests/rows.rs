@@ -37,6 +37,7 @@ const STATE: &str = "state";
 const TOO_LARGE: &str = "larger than the text's limits";
 const NO_SUCH_TABLE: &str = "sizes or lengths that the text cannot lend";
 const NO_SUCH_LINE: &str = "words that name no request";
+const NO_REQUEST: &str = "a page table by itself, which no request asks about";
 
 /// The limits of a size line: N, M, R and memory.
 const MOST: [u64; 4] = [16, 64, 64, 4_096];
@@ -228,13 +229,14 @@ fn show_interrupts(out: &mut Output, interrupts: &[u64]) {
     }
 }
 
-/// A row of a limit, or why the text cannot say it: `sized` of sizes and lengths, or `formed` of a
-/// request.
+/// A row of a limit, or why the text cannot say it: `sized` of sizes and lengths, `small` of an entry,
+/// or `formed` of a request.
 fn limit(out: &mut Output, limit: &Value) -> Result<(), &'static str> {
     let good = limit.field("good").variant().0 == "true";
     match limit.field("gives").variant() {
         ("sized", [sizes, lengths]) => sized(out, sizes, lengths, good),
         ("formed", [request]) => formed(out, request, good),
+        ("small", _) => Err(NO_REQUEST),
         (name, _) => panic!("a limit of another test: {name}"),
     }
 }

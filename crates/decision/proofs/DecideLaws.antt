@@ -1,12 +1,11 @@
 -- What `check`, `finish` and `decide` are proved from. Assumes nothing.
-use mathlib.Core.Path.{_≡_, refl, sym, ap, _∙_}
+use mathlib.Core.Path.{_≡_, _∙_}
 use mathlib.Core.Bool.{Bool, true, false}
 use mathlib.Core.List.{List}
 use Prim.Native.Nat.{ℕ}
 use native.Mathlib.Omega.{arith}
 use mir.Syntax.{w16}
 use mir.Val.{Fits}
-use lib.ListN.{length}
 use Rattle.kinds.specs.Checked.{Kept, Walk, shown}
 use Rattle.kinds.specs.declared.answer.Answer.the-variants.{Refuse}
 use Rattle.kinds.specs.declared.answer.Reason.the-variants.{TableLength, BadRequest}
@@ -16,11 +15,10 @@ use Rattle.kinds.specs.declared.record.Lengths.{Lengths}
 use Rattle.kinds.specs.declared.record.Sizes.{Sizes}
 use Rattle.kinds.specs.declared.request.Request.{Request}
 use Rattle.profile.specs.Owner.{ownerIn}
-use Rattle.profile.specs.Step.{formed, asked, checked, finish, checkedOn, decided}
-use Rattle.profile.specs.Tables.{Tables, Live, sized}
+use Rattle.profile.specs.Step.{formed, asked, checked, finish}
+use Rattle.profile.specs.Tables.{Live, sized}
 use Rattle.sizes.specs.SizedLaws.{sized-pes}
 use Rattle.decision.specs.Finished.{finished}
-use Rattle.decision.specs.FinishedLaws.{finished-is}
 
 -- `check`
 pub pes-fits : (z : Sizes) (l : Lengths) {ok : Bool} → ok ≡ sized z l → ok ≡ true → Fits w16 (z .pes)
@@ -51,8 +49,3 @@ module _ (m : List ℕ) (c : Check) where
 
   pub finish-known : c .walks ≡ false → c .outcome ≡ finished m c
   finish-known h = rw h
-
--- `decide`
-pub decided-is : (f : Tables) (m : List ℕ) (s : Live) (y : Request) {c : Check} {o : Outcome} → c ≡ shown (checkedOn f (length m) s y) → o ≡ finished m c
-    → o ≡ decided f m s y
-decided-is f m s y h k = k ∙ rw h (finished-is m (checkedOn f (length m) s y))

@@ -197,16 +197,16 @@ pub fn decide(
 ) -> Outcome
     ensures { λ r. ⌜ r ≡ decided (tables sizes (now (requesters .entry)) (now (entries .entry)) (now (peers .entry)) (now (windows .entry)) (now (segments .entry))) (now (memory .entry)) (live (now (state .entry)) (now (interrupts .entry))) request ⌝ }
 {
-    let lengths = Lengths {
-        requesters: requesters.len() as u64,
-        entries: entries.len() as u64,
-        memory: memory.len() as u64,
-        peers: peers.len() as u64,
-        interrupts: interrupts.len() as u64,
-        windows: windows.len() as u64,
-        segments: segments.len() as u64,
-        state: state.len() as u64,
-    };
+    let lengths = sizes::lengths_of(
+        requesters,
+        entries,
+        memory,
+        peers,
+        interrupts,
+        windows,
+        segments,
+        state,
+    );
     let checked = check(
         sizes,
         lengths,

@@ -10,7 +10,7 @@ use Rattle.kinds.specs.Tests.{by-cases}
 use Rattle.kinds.specs.declared.number.ByteAddress.{ByteAddress}
 use Rattle.kinds.specs.declared.number.PageSize.{PageSize}
 use Rattle.kinds.specs.declared.record.TranslationEntry.{TranslationEntry}
-use Rattle.profile.specs.Entry.{pageSize, span, tableGood, bypassGood, pagesGood, inBypass}
+use Rattle.profile.specs.Entry.{pageSize, span, tableGood, bypassGood, pagesGood, inBypass, mostTableCode}
 use Rattle.page_tables.specs.Shape.{shapeOf}
 use Rattle.page_tables.specs.declared.Shape.{Shape}
 use Rattle.page_tables.specs.declared.Shape.the-variants.{Pages, Bad}
@@ -66,11 +66,11 @@ module _ (e : TranslationEntry) (o : ByteAddress) where
   no-table h = rw (lt-leb _ _ h)
 
   module _ (some : 1 ≤ e .table) where
-    pub large-table : 31 < e .table → BadEntry ≡ asked e o
+    pub large-table : mostTableCode < e .table → BadEntry ≡ asked e o
     unfolding tableGood
     large-table h = rw (le-leb _ _ some, lt-leb _ _ h)
 
-    module _ (few : e .table ≤ 31) where
+    module _ (few : e .table ≤ mostTableCode) where
       pub by-bypass : {r : Way} → e .page ≡ 0 → r ≡ askedBypass e o → r ≡ asked e o
       unfolding tableGood
       by-bypass z f = f ∙ rw (le-leb _ _ some, le-leb _ _ few, eq-eqb _ _ z)
@@ -80,7 +80,7 @@ module _ (e : TranslationEntry) (o : ByteAddress) where
       by-pages z f = f ∙ rw (le-leb _ _ some, le-leb _ _ few, ne-eqb _ _ z)
 
 -- `ask_pages`: the shape
-module _ (e : TranslationEntry) (small : e .table ≤ 31) {c : Shape} (asks : c ≡ shapeOf e) where
+module _ (e : TranslationEntry) (small : e .table ≤ mostTableCode) {c : Shape} (asks : c ≡ shapeOf e) where
   bad-is : c ≡ Bad → pagesGood e ≡ false
   bad-is z = by-cases (pagesGood e) (λ t. let y = rw (le-leb _ _ small, t) at asks in cc) (λ t. t)
 
@@ -100,7 +100,7 @@ module _ (e : TranslationEntry) (small : e .table ≤ 31) {c : Shape} (asks : c 
     pub span-below : n < 64
     span-below = omega (arith, good-span e good-is, span-is)
 
-module _ (e : TranslationEntry) (o : ByteAddress) (small : e .table ≤ 31) {c : Shape} (asks : c ≡ shapeOf e) where
+module _ (e : TranslationEntry) (o : ByteAddress) (small : e .table ≤ mostTableCode) {c : Shape} (asks : c ≡ shapeOf e) where
   pub bad-shape : c ≡ Bad → BadEntry ≡ askedPages e o
   bad-shape z = rw (bad-is e small asks z)
 

@@ -7,7 +7,7 @@ use mathlib.Core.Bool.{true}
 use mathlib.Core.List.{List, []}
 use Prim.Native.Nat.{ℕ, zero, suc}
 use Rattle.kinds.specs.Words.{at}
-use Rattle.isolation.specs.View.{Bridge, lengthsOf}
+use Rattle.isolation.specs.View.{Bridge, bridgeLengths}
 use Rattle.members.specs.Member.{group}
 use Rattle.groups.specs.Seen.{seen}
 
@@ -24,5 +24,5 @@ tableOf a (suc (suc (suc (suc (suc (suc (suc (suc n)))))))) = []
 
 pub record SeenAlike (g t : List ℕ) (a b : Bridge) : Type 0 where
   pub sizes : a .tables .sizes ≡ b .tables .sizes
-  pub all-lengths : lengthsOf a ≡ lengthsOf b
+  pub all-lengths : bridgeLengths a ≡ bridgeLengths b
   pub words : (n i : ℕ) → seen g (a .live .interrupts) t n i ≡ true → at (tableOf a n) i ≡ at (tableOf b n) i

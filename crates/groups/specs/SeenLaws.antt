@@ -22,7 +22,7 @@ use Rattle.profile.specs.Agree.{interruptPe}
 use Rattle.profile.specs.Entry.{entry}
 use Rattle.profile.specs.Msi.{interrupt}
 use Rattle.profile.specs.Tables.{entryWords, recordWords, interruptWords, stateWords}
-use Rattle.isolation.specs.View.{Bridge, lengthsOf, Public, Written, View}
+use Rattle.isolation.specs.View.{Bridge, bridgeLengths, Public, Written, View}
 use Rattle.runs.specs.Run.{served, ranTo}
 use Rattle.runs.specs.RunIsolation.{ownRequests, ownAnswers, run-isolation}
 use Rattle.members.specs.Member.{group}
@@ -41,7 +41,7 @@ pe-same l k i e h =
     (λ o. let b = ltb-false i (length l) o in List·getD-eq-default l noPe b ∙ sym (List·getD-eq-default k noPe (omega arith)))
 
 module _ (g t : List ℕ) (a b : Bridge) (s : SeenAlike g t a b) where
-  same-length : (P : Lengths → ℕ) → P (lengthsOf a) ≡ P (lengthsOf b)
+  same-length : (P : Lengths → ℕ) → P (bridgeLengths a) ≡ P (bridgeLengths b)
   same-length P = ap P (s .all-lengths)
 
   -- the word of an interrupt that is its PE, and one whose PE is a member

@@ -20,7 +20,7 @@ use Rattle.profile.specs.AgreeLaws.{alike-refl, same-refl, held-refl}
 use Rattle.profile.specs.AnswersLaws.{unsized-answered, unsized-keeps}
 use Rattle.isolation.specs.Machine.{mine, replies}
 use Rattle.isolation.specs.Unwind.{chosen-twice, seen-chosen}
-use Rattle.isolation.specs.View.{Bridge, lengthsOf, Public, Written, View}
+use Rattle.isolation.specs.View.{Bridge, bridgeLengths, Public, Written, View}
 use Rattle.isolation.specs.ViewLaws.{agreed, viewed}
 use Rattle.isolation.specs.Isolation.{machine, own, answers, left, belongs-keeps, met-own, run-agrees, isolation}
 
@@ -52,9 +52,9 @@ pub isolated-met : (G : PeNumber → Bool) (a b : Bridge) → Closed G (a .table
     → (answers G a l ≡ answers G b k) × Written G (a .tables .sizes .interrupts) (left a l) (left b k)
 isolated-met G a b c v l k e = isolation .isolated G a b c v l k (sym (met-own G a l) ∙ e ∙ met-own G b k)
 
-pub reason-one-both : (a b : Bridge) → Public a b → sized (a .tables .sizes) (lengthsOf a) ≡ sized (b .tables .sizes) (lengthsOf b)
+pub reason-one-both : (a b : Bridge) → Public a b → sized (a .tables .sizes) (bridgeLengths a) ≡ sized (b .tables .sizes) (bridgeLengths b)
 reason-one-both a b v = ap₂ sized (v .sizes) (v .all-lengths)
 
-pub reason-one : (a : Bridge) (q : Request) → sized (a .tables .sizes) (lengthsOf a) ≡ false
+pub reason-one : (a : Bridge) (q : Request) → sized (a .tables .sizes) (bridgeLengths a) ≡ false
     → (answered (a .tables) (a .memory) (a .live) q ≡ Refuse TableLength 0) × (after (a .tables) (a .memory) (a .live) q ≡ a .live)
 reason-one a q o = (unsized-answered (a .tables) (a .memory) (a .live) q o, unsized-keeps (a .tables) (a .memory) (a .live) q o)

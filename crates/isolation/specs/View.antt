@@ -1,6 +1,6 @@
 -- What a group of PEs sees of a bridge, in the words of demand 3.
 --     Bridge              the fixed tables, memory, and what is written
---     lengthsOf a         the lengths of its tables
+--     bridgeLengths a     the lengths of its tables
 --     Public a b          equal in all that 01 calls public
 --     Written G n s t     the group's stop bits, error records and interrupt records are equal, n being M
 --     View G a b          all that demand 3 asks of two bridges, G being the group
@@ -25,14 +25,14 @@ pub record Bridge : Type 0 where
   pub memory : List ℕ
   pub live : Live
 
-abbrev pub lengthsOf : Bridge → Lengths
-lengthsOf a = lengths (a .tables) (length (a .memory)) (a .live)
+abbrev pub bridgeLengths : Bridge → Lengths
+bridgeLengths a = lengths (a .tables) (length (a .memory)) (a .live)
 
 pub record Public (a b : Bridge) : Type 0 where
   -- N, M and R
   pub sizes : a .tables .sizes ≡ b .tables .sizes
   -- all lengths
-  pub all-lengths : lengthsOf a ≡ lengthsOf b
+  pub all-lengths : bridgeLengths a ≡ bridgeLengths b
   -- requesters, peers, windows, segments
   pub requesters : a .tables .requesters ≡ b .tables .requesters
   pub peers : a .tables .peers ≡ b .tables .peers

@@ -1,4 +1,5 @@
 pub mod Answer
+pub mod AnswerCases
 pub mod Number
 pub mod Checked
 pub mod NumberLaws

@@ -9,7 +9,7 @@
 -- Assumes nothing.
 use mathlib.Core.Path.{_≡_, sym, ap, subst, subst⁻¹, _∙_}
 use Prim.Native.Nat.{ℕ, zero, suc, _+_, _-_, _*_, _/_, _%_, _^_, _≤_, _<_}
-use native.Mathlib.Nat.{mod-eq-of-lt, mod-lt, lt-of-le-of-lt, one-mul, div-mul-le-self, suc-mul, div-lt-iff-lt-mul, mul-le-mul-right, add-mul, add-zero, mul-mod-left}
+use native.Mathlib.Nat.{mod-eq-of-lt, mod-lt, lt-of-le-of-lt, one-mul, div-mul-le-self, suc-mul, div-lt-iff-lt-mul, mul-le-mul-right, add-zero, mul-mod-left}
 use native.Mathlib.Numerals.{sub-one}
 use native.Mathlib.Omega.{arith}
 use lib.Pow.{pow-add, pow-lt, pow-pos, pow-mono, mod-pow-add, shl-shr, high, low}
@@ -43,7 +43,7 @@ under x y b n pos h =
     let q : x / b < n = div-lt-iff-lt-mul pos .1 h in
     let m : (x / b + 1) * b ≤ n * b = mul-le-mul-right b (omega arith) in
     let r = mod-lt y pos in
-    omega (arith, add-mul (x / b) 1 b, one-mul b)
+    omega arith
 
 -- 64 bits, the lowest k of them apart
 parted : (k : ℕ) → k < 64 → 64 ≡ 64 - k + k

@@ -1,7 +1,7 @@
 -- Reasoning by the value of a test.
 --     by-cases b f g      go by the two values of b
 --     clash p q           a test is not both true and false
---     and-left, and-right the parts of a conjunction that holds; and-both puts them together
+--     and-left, and-right the parts of a conjunction that holds; and-both puts them together; and-true, and-false: by its last part
 --     or-cases            the part of a disjunction that holds; or-left and or-right put one in
 --     all l               every test of a list holds; all-true: so test k does; all-append: of two lists together
 --     tests               the rule set that turns a fact about numbers into the value of its test
@@ -21,7 +21,7 @@ by-cases true f g = f refl
 by-cases false f g = g refl
 
 pub clash : {P : Type 0} {b : Bool} → b ≡ true → b ≡ false → P
-clash p q = let z : _≡_ {A = Bool} true false = cc in absurd (let y : _≡_ {A = ℕ} 0 1 = cc in omega arith)
+clash p q = absurd (let y : _≡_ {A = ℕ} 0 1 = cc in omega arith)
 
 pub and-left : (a b : Bool) → (a && b) ≡ true → a ≡ true
 and-left true b e = refl
@@ -33,6 +33,14 @@ and-right false b e = clash e refl
 
 pub and-both : (a b : Bool) → a ≡ true → b ≡ true → (a && b) ≡ true
 and-both a b p q = rw (p, q)
+
+pub and-true : (b : Bool) → (b && true) ≡ b
+and-true true = refl
+and-true false = refl
+
+pub and-false : (b : Bool) → (b && false) ≡ false
+and-false true = refl
+and-false false = refl
 
 pub or-cases : {P : Type 0} (a b : Bool) → (a || b) ≡ true → (a ≡ true → P) → (b ≡ true → P) → P
 or-cases true b e f g = f refl

@@ -1,6 +1,6 @@
 -- Reads after writes, as equations with no premise on the place.
 --     at-out              a word outside the table is 0
---     pe-in               the number of a PE in a word that the table has
+--     pe-in               the number of a PE in a word that the table has; pe-out: a word outside it is 2 ^ 16, above all numbers of 16 bits
 --     at-set              a word after a single store
 --     at-front            a word after the first words of the table became others
 --     at-mapAt            a word after a table was rewritten by a rule; length-mapAt keeps the length
@@ -8,7 +8,7 @@
 use mathlib.Core.Path.{_≡_, refl, ap, _∙_}
 use mathlib.Core.Bool.{false, cond, _&&_}
 use mathlib.Core.List.{List, [], _∷_, _++_}
-use Prim.Native.Nat.{ℕ, zero, suc, _+_, _-_, _<_}
+use Prim.Native.Nat.{ℕ, zero, suc, _+_, _-_, _^_, _<_}
 use native.Mathlib.Nat.{zero-add, add-zero, add-suc, suc-add, not-suc-le-zero, le-of-suc-le-suc}
 use lib.Dec.{ltb, eqb}
 use native.Mathlib.Omega.{arith}
@@ -16,7 +16,7 @@ use lib.ListN.{length, set, drop, List·getD-append, List·getD-eq-default}
 use lib.Seq.{getD-set-same, getD-set-other, getD-append-add, getD-drop, set-out}
 use borrow.Author.Tests.{ltb-true, ltb-false, eqb-true, eqb-false}
 use Rattle.kinds.specs.Tests.{by-cases}
-use Rattle.kinds.specs.Words.{at, peAt, mapAt}
+use Rattle.kinds.specs.Words.{at, noPe, peAt, mapAt}
 
 pub at-out : (l : List ℕ) (i : ℕ) → ltb i (length l) ≡ false → at l i ≡ 0
 at-out l i o = List·getD-eq-default l 0 (ltb-false i (length l) o)
@@ -25,6 +25,9 @@ pub pe-in : (l : List ℕ) (i : ℕ) → i < length l → at l i ≡ peAt l i
 pe-in [] i h = absurd (not-suc-le-zero h)
 pe-in (x ∷ l) zero h = refl
 pe-in (x ∷ l) (suc i) h = pe-in l i (le-of-suc-le-suc h)
+
+pub pe-out : (l : List ℕ) (i : ℕ) → ltb i (length l) ≡ false → peAt l i ≡ 2 ^ 16
+pe-out l i o = List·getD-eq-default l noPe (ltb-false i (length l) o)
 
 pub at-set : (l : List ℕ) (i v j : ℕ) → at (set l i v) j ≡ cond (eqb j i && ltb j (length l)) v (at l j)
 at-set l i v j =

@@ -13,53 +13,54 @@ use native.Mathlib.Omega.{arith}
 use lib.Dec.{leb}
 use lib.ListN.{length, take, replicate}
 use borrow.Author.Tests.{lt-leb, le-leb, leb-true, leb-false, ne-eqb}
-use Rattle.kinds.specs.Tests.{and-left, and-right, by-cases}
+use Rattle.kinds.specs.Tests.{and-left, and-right, and-true, all-true, by-cases}
 use Rattle.kinds.specs.declared.record.Lengths.{Lengths}
 use Rattle.line_text.specs.declared.Line.the-variants.{Size}
-use Rattle.profile.specs.Tables.{windowWords, segmentCount}
-use Rattle.tables_in_use.specs.Lent.{lent, lengthsOf, once, peRoom, otherRoom, roomFor}
+use Rattle.profile.specs.Tables.{entryWords, peerWords, interruptWords, stateWords, windowWords, segmentCount}
+use Rattle.sizes.specs.Tables.{lengthsOf}
+use Rattle.tables_in_use.specs.Lent.{lent, once, peRooms, otherRooms, peRoom, otherRoom, roomFor}
 use Rattle.lent_tables.specs.Promise.{SizedTo, sizeLine, emptiedTo, cleared}
 use Rattle.tables_in_use.specs.declared.Extent.{Extent}
 use Rattle.tables_in_use.specs.declared.Reply.the-variants.{Silent, NoRoom}
 
 module _ (n k : ℕ) where
-  last-room : leb n (k / 3) ≡ leb (n * 3) k
+  last-room : leb n (k / stateWords) ≡ leb (n * stateWords) k
   last-room =
-      by-cases (leb n (k / 3))
-      (λ t. rw (t, le-leb (n * 3) k (omega (arith, leb-true n (k / 3) t))))
-      (λ t. rw (t, lt-leb (n * 3) k (omega (arith, leb-false n (k / 3) t))))
+      by-cases (leb n (k / stateWords))
+      (λ t. rw (t, le-leb (n * stateWords) k (omega (arith, leb-true n (k / stateWords) t))))
+      (λ t. rw (t, lt-leb (n * stateWords) k (omega (arith, leb-false n (k / stateWords) t))))
 
 module _ (n : ℕ) (k : Lengths) where
-  pub pe-entries : k .entries / 8 < n → false ≡ peRoom n k
-  pe-entries a = rw (lt-leb (n * 8) (k .entries) (omega arith))
+  pub pe-entries : k .entries / entryWords < n → false ≡ peRoom n k
+  pe-entries a = rw (lt-leb (n * entryWords) (k .entries) (omega arith))
 
-  module _ (a : n ≤ k .entries / 8) where
-    pub pe-peers : k .peers / 4 < n → false ≡ peRoom n k
-    pe-peers b = rw (le-leb (n * 8) (k .entries) (omega arith), lt-leb (n * 4) (k .peers) (omega arith))
+  module _ (a : n ≤ k .entries / entryWords) where
+    pub pe-peers : k .peers / peerWords < n → false ≡ peRoom n k
+    pe-peers b = rw (le-leb (n * entryWords) (k .entries) (omega arith), lt-leb (n * peerWords) (k .peers) (omega arith))
 
-    pub pe-state : n ≤ k .peers / 4 → leb n (k .state / 3) ≡ peRoom n k
-    pe-state b = rw (le-leb (n * 8) (k .entries) (omega arith), le-leb (n * 4) (k .peers) (omega arith)) (last-room n (k .state))
+    pub pe-state : n ≤ k .peers / peerWords → leb n (k .state / stateWords) ≡ peRoom n k
+    pe-state b = rw (le-leb (n * entryWords) (k .entries) (omega arith), le-leb (n * peerWords) (k .peers) (omega arith)) (last-room n (k .state) ∙ sym (and-true _))
 
 module _ (m r w : ℕ) (k : Lengths) where
-  pub other-interrupts : k .interrupts / 4 < m → false ≡ otherRoom m r w k
-  other-interrupts a = rw (lt-leb (m * 4) (k .interrupts) (omega arith))
+  pub other-interrupts : k .interrupts / interruptWords < m → false ≡ otherRoom m r w k
+  other-interrupts a = rw (lt-leb (m * interruptWords) (k .interrupts) (omega arith))
 
-  module _ (a : m ≤ k .interrupts / 4) where
+  module _ (a : m ≤ k .interrupts / interruptWords) where
     pub other-requesters : k .requesters < r → false ≡ otherRoom m r w k
-    other-requesters b = rw (le-leb (m * 4) (k .interrupts) (omega arith), lt-leb r (k .requesters) b)
+    other-requesters b = rw (le-leb (m * interruptWords) (k .interrupts) (omega arith), lt-leb r (k .requesters) b)
 
     module _ (b : r ≤ k .requesters) where
       pub other-memory : k .memory < w → false ≡ otherRoom m r w k
-      other-memory c = rw (le-leb (m * 4) (k .interrupts) (omega arith), le-leb r (k .requesters) b, lt-leb w (k .memory) c)
+      other-memory c = rw (le-leb (m * interruptWords) (k .interrupts) (omega arith), le-leb r (k .requesters) b, lt-leb w (k .memory) c)
 
       module _ (c : w ≤ k .memory) where
-        pub other-windows : k .windows < 67 → false ≡ otherRoom m r w k
+        pub other-windows : k .windows < windowWords → false ≡ otherRoom m r w k
         other-windows d =
-            rw (le-leb (m * 4) (k .interrupts) (omega arith), le-leb r (k .requesters) b, le-leb w (k .memory) c, lt-leb 67 (k .windows) d)
+            rw (le-leb (m * interruptWords) (k .interrupts) (omega arith), le-leb r (k .requesters) b, le-leb w (k .memory) c, lt-leb windowWords (k .windows) d)
 
-        pub other-segments : 67 ≤ k .windows → leb 256 (k .segments) ≡ otherRoom m r w k
+        pub other-segments : windowWords ≤ k .windows → leb segmentCount (k .segments) ≡ otherRoom m r w k
         other-segments d =
-            rw (le-leb (m * 4) (k .interrupts) (omega arith), le-leb r (k .requesters) b, le-leb w (k .memory) c, le-leb 67 (k .windows) d)
+            rw (le-leb (m * interruptWords) (k .interrupts) (omega arith), le-leb r (k .requesters) b, le-leb w (k .memory) c, le-leb windowWords (k .windows) d) (sym (and-true _))
 
 module _ (n m r w : ℕ) (k : Lengths) where
   pub no-pes : n < 1 → false ≡ roomFor (Size n m r w) k
@@ -79,14 +80,6 @@ take-zeros : (k l : ℕ) → k ≤ l → take k (replicate {A = ℕ} l 0) ≡ re
 take-zeros zero l h = refl
 take-zeros (suc k) zero h = absurd (omega arith)
 take-zeros (suc k) (suc l) h = ap (λ (r : List ℕ). 0 ∷ r) (take-zeros k l (omega arith))
-
-three : (a b c : Bool) → (a && b && c) ≡ true → (a ≡ true) × (b ≡ true) × (c ≡ true)
-three a b c h = (and-left a b (and-left (a && b) c h), and-right a b (and-left (a && b) c h), and-right (a && b) c h)
-
-five : (a b c d e : Bool) → (a && b && c && d && e) ≡ true → (a ≡ true) × (b ≡ true) × (c ≡ true) × (d ≡ true) × (e ≡ true)
-five a b c d e h =
-    let t = three a b c (and-left (a && b && c) d (and-left (a && b && c && d) e h)) in
-    (t .0, t .1, t .2, and-right (a && b && c) d (and-left (a && b && c && d) e h), and-right (a && b && c && d) e h)
 
 module _ (x a : Extent) (q e m p n w g t : List ℕ) where
   abbrev lengths : Lengths
@@ -114,22 +107,25 @@ module _ (x a : Extent) (q e m p n w g t : List ℕ) where
 
     emptied-is : lent a (cleared q) (cleared e) (cleared m) (cleared p) (cleared n) (cleared w) (cleared g) (cleared t) ≡ emptiedTo a
     emptied-is =
-        let f = three _ _ _ pes in
-        let o = five _ _ _ _ _ others in
+        let f = all-true (peRooms (a .sizes .pes) lengths) in
+        let o = all-true (otherRooms (a .sizes .interrupts) (a .sizes .requesters) (a .memory) lengths) in
         rw (
           there windowWords,
           there segmentCount,
-          zeroed (a .sizes .pes * 8) e (f .0),
-          zeroed (a .sizes .pes * 4) p (f .1),
-          zeroed (a .sizes .pes * 3) t (f .2),
-          zeroed (a .sizes .interrupts * 4) n (o .0),
-          zeroed (a .sizes .requesters) q (o .1),
-          zeroed (a .memory) m (o .2),
-          zeroed 67 w (o .3),
-          zeroed 256 g (o .4),
+          zeroed (a .sizes .pes * entryWords) e (f 0 pes),
+          zeroed (a .sizes .pes * peerWords) p (f 1 pes),
+          zeroed (a .sizes .pes * stateWords) t (f 2 pes),
+          zeroed (a .sizes .interrupts * interruptWords) n (o 0 others),
+          zeroed (a .sizes .requesters) q (o 1 others),
+          zeroed (a .memory) m (o 2 others),
+          zeroed windowWords w (o 3 others),
+          zeroed segmentCount g (o 4 others),
         )
 
-  module _ {b : Bool} (asked : b ≡ roomFor (sizeLine a) lengths) where
+  module _ {k : Lengths} {b : Bool} (measured : k ≡ lengths) (asks : b ≡ roomFor (sizeLine a) k) where
+    asked : b ≡ roomFor (sizeLine a) lengths
+    asked = asks ∙ rw measured
+
     pub sized-none : b ≡ false → SizedTo lengths (lent x q e m p n w g t) a NoRoom (lent x q e m p n w g t)
     sized-none f = record { replies = rw (← asked, f); leaves = rw (← asked, f) }
 

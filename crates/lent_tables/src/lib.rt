@@ -2,7 +2,6 @@
 mod size;
 mod table;
 
-use kinds::record::Lengths;
 use line_text::Table;
 use profile::limits::ENTRY_WORDS;
 use profile::limits::INTERRUPT_WORDS;
@@ -12,6 +11,7 @@ use profile::limits::STATE_WORDS;
 use profile::limits::WINDOW_WORDS;
 use size::clear_all;
 use size::room_for;
+use sizes;
 use table::set_short;
 use table::set_word;
 use tables_in_use::Extent;
@@ -19,7 +19,8 @@ use tables_in_use::Replied;
 use tables_in_use::Reply;
 use tables_in_use::once;
 ghost use mathlib.Core.Path.{_≡_};
-ghost use Rattle.tables_in_use.specs.Lent.{lent, lengthsOf};
+ghost use Rattle.sizes.specs.Tables.{lengthsOf};
+ghost use Rattle.tables_in_use.specs.Lent.{lent};
 ghost use Rattle.lent_tables.specs.Promise.{DidSet, SizedTo};
 
 // A set line: the word of a table that is in use set, or the answer to a bad line.
@@ -68,16 +69,16 @@ pub fn size_line(
 ) -> Replied
     ensures { λ r. ⌜ SizedTo (lengthsOf (now (requesters .entry)) (now (entries .entry)) (now (memory .entry)) (now (peers .entry)) (now (interrupts .entry)) (now (windows .entry)) (now (segments .entry)) (now (state .entry))) (lent extent (now (requesters .entry)) (now (entries .entry)) (now (memory .entry)) (now (peers .entry)) (now (interrupts .entry)) (now (windows .entry)) (now (segments .entry)) (now (state .entry))) asked (r .reply) (lent (r .extent) (now (requesters .exit)) (now (entries .exit)) (now (memory .exit)) (now (peers .exit)) (now (interrupts .exit)) (now (windows .exit)) (now (segments .exit)) (now (state .exit))) ⌝ }
 {
-    let lengths = Lengths {
-        requesters: requesters.len() as u64,
-        entries: entries.len() as u64,
-        memory: memory.len() as u64,
-        peers: peers.len() as u64,
-        interrupts: interrupts.len() as u64,
-        windows: windows.len() as u64,
-        segments: segments.len() as u64,
-        state: state.len() as u64,
-    };
+    let lengths = sizes::lengths_of(
+        requesters,
+        entries,
+        memory,
+        peers,
+        interrupts,
+        windows,
+        segments,
+        state,
+    );
     let sizes = asked.sizes;
     if room_for(
         sizes.pes,

@@ -10,7 +10,7 @@ use lib.Dec.{eqb, leb}
 use lib.ListN.{length}
 use Rattle.kinds.specs.declared.record.Lengths.{Lengths}
 use Rattle.stream.specs.Stream.{Stream, lineKept}
-use Rattle.tables_in_use.specs.Lent.{lengthsOf}
+use Rattle.sizes.specs.Tables.{lengthsOf}
 use Rattle.line_end.specs.Promise.{streamOf}
 use Rattle.line_end.specs.declared.Progress.{Progress}
 

@@ -14,7 +14,7 @@ ghost use lib.Dec.{eqb, ltb, leb};
 ghost use lib.ListN.{length, take};
 ghost use lib.Seq.{sets};
 ghost use Rattle.report.specs.Text.{answerLine, lineMost};
-ghost use Rattle.tables_in_use.specs.Lent.{lengthsOf};
+ghost use Rattle.sizes.specs.Tables.{lengthsOf};
 ghost use Rattle.stream.specs.Feed.{lastCount};
 ghost use Rattle.stream.specs.Replay.{textOf};
 ghost use Rattle.stream.specs.Stream.{lineKept};

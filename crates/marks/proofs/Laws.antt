@@ -11,7 +11,7 @@ use lib.ListN.{length}
 use borrow.Author.Tests.{eq-eqb, ne-eqb}
 use Rattle.kinds.specs.Words.{at}
 use Rattle.kinds.specs.declared.record.TranslationEntry.{TranslationEntry}
-use Rattle.profile.specs.Entry.{indexBits}
+use Rattle.profile.specs.Entry.{indexBits, mostLevels}
 use Rattle.marks.specs.Marks.{anyMark, markAt, inTable, misses, tableMisses, wordMisses, levelsMiss, hasPages, entryMisses}
 use Rattle.marks.specs.MarksLaws.{code-most, levels-some, levels-most}
 
@@ -70,7 +70,7 @@ module _ (e : TranslationEntry) {a : Bool} (asked : a ≡ hasPages e) (o : a ≡
   pub some-level : 1 ≤ e .levels
   some-level = levels-some e (rw (← asked) o)
 
-  pub few-below : e .levels - 1 ≤ 5
+  pub few-below : e .levels - 1 ≤ mostLevels
   few-below = omega (arith, levels-most e (rw (← asked) o))
 
   pub below-fits : e .levels - 1 < 64

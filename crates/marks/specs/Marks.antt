@@ -17,7 +17,7 @@ use lib.ListN.{length}
 use Rattle.kinds.specs.Tests.{all}
 use Rattle.kinds.specs.Words.{at}
 use Rattle.kinds.specs.declared.record.TranslationEntry.{TranslationEntry}
-use Rattle.profile.specs.Entry.{indexBits, tableGood, bypass}
+use Rattle.profile.specs.Entry.{indexBits, tableGood, bypass, mostLevels}
 use Rattle.members.specs.Any.{any}
 
 unfoldable pub markAt : List ℕ → (below j : ℕ) → Bool
@@ -43,7 +43,7 @@ abbrev pub levelsMiss : (memory marks : List ℕ) → (bits levels : ℕ) → Bo
 levelsMiss m t n l = any l (levelMisses m t n)
 
 abbrev pub pageTests : TranslationEntry → List Bool
-pageTests e = tableGood e ∷ not (bypass e) ∷ leb 1 (e .levels) ∷ leb (e .levels) 5 ∷ []
+pageTests e = tableGood e ∷ not (bypass e) ∷ leb 1 (e .levels) ∷ leb (e .levels) mostLevels ∷ []
 
 unfoldable pub hasPages : TranslationEntry → Bool
 hasPages e = all (pageTests e)

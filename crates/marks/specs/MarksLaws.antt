@@ -6,7 +6,7 @@
 --     entry-marked        the same of the walk by an entry that misses nothing, for any offset
 -- Assumes nothing.
 use mathlib.Core.Path.{_≡_, refl}
-use mathlib.Core.Bool.{true, false, not, _&&_, _||_}
+use mathlib.Core.Bool.{true, false, not, _&&_}
 use mathlib.Core.List.{List, List·Memᴰ, List·Memᴰ·not-nil}
 use Prim.Native.Nat.{ℕ, zero, suc, _+_, _-_, _*_, _/_, _%_, _^_, _<_, _≤_}
 use native.Mathlib.Nat.{mod-lt, div-eq-of-lt, zero-div}
@@ -21,7 +21,8 @@ use Rattle.kinds.specs.Words.{at}
 use Rattle.kinds.specs.declared.number.ByteAddress.{ByteAddress}
 use Rattle.kinds.specs.declared.number.PageNumber.{PageNumber}
 use Rattle.kinds.specs.declared.record.TranslationEntry.{TranslationEntry}
-use Rattle.profile.specs.Entry.{pageOf, indexBits, tableGood, bypass, pagesGood, paged, walks}
+use Rattle.profile.specs.Entry.{pageOf, indexBits, tableGood, bypass, pagesGood, paged, walks, mostTableCode, mostLevels}
+use Rattle.profile.specs.Entry as good
 use Rattle.profile.specs.Walk.{place, nextBase, leads, walkFrom, walk, readsBy}
 use Rattle.profile.specs.WalkLaws.{walk-suc, walk-cases}
 use Rattle.members.specs.AnyLaws.{any-none}
@@ -29,28 +30,25 @@ use Rattle.members.specs.MemberLaws.{not-false}
 use Rattle.marks.specs.Marks.{anyMark, markAt, inTable, misses, tableMisses, wordMisses, levelMisses, levelsMiss, pageTests, hasPages, entryMisses}
 
 module _ (e : TranslationEntry) (h : hasPages e ≡ true) where
-  pub code-most : e .table ≤ 31
+  pub code-most : e .table ≤ mostTableCode
   unfolding hasPages tableGood
-  code-most = leb-true (e .table) 31 (and-right (leb 1 (e .table)) _ (all-true (pageTests e) 0 h))
+  code-most = leb-true (e .table) mostTableCode (and-right (leb 1 (e .table)) _ (all-true (pageTests e) 0 h))
 
   pub levels-some : 1 ≤ e .levels
   unfolding hasPages
   levels-some = leb-true 1 (e .levels) (all-true (pageTests e) 2 h)
 
-  pub levels-most : e .levels ≤ 5
+  pub levels-most : e .levels ≤ mostLevels
   unfolding hasPages
-  levels-most = leb-true (e .levels) 5 (all-true (pageTests e) 3 h)
+  levels-most = leb-true (e .levels) mostLevels (all-true (pageTests e) 3 h)
 
 pub walks-pages : (e : TranslationEntry) (o : ByteAddress) → walks e o ≡ true → hasPages e ≡ true
 unfolding hasPages walks paged pagesGood
 walks-pages e o h =
-    let good = and-left (paged e) _ h in
-    let codes = and-left (tableGood e && not (bypass e)) (pagesGood e) good in
-    let known = eqb (e .page) 1 || eqb (e .page) 5 || eqb (e .page) 13 || eqb (e .page) 17 in
-    let levels = and-right known (leb 1 (e .levels) && _) (and-right (tableGood e && not (bypass e)) (pagesGood e) good) in
-    let least : leb 1 (e .levels) ≡ true = and-left _ _ levels in
-    let most : leb (e .levels) 5 ≡ true = and-left _ _ (and-right (leb 1 (e .levels)) (leb (e .levels) 5 && _) levels) in
-    rw (and-left (tableGood e) (not (bypass e)) codes, and-right (tableGood e) (not (bypass e)) codes, least, most)
+    let is = and-left (paged e) _ h in
+    let codes = and-left (tableGood e && not (bypass e)) (pagesGood e) is in
+    let pages = and-right (tableGood e && not (bypass e)) (pagesGood e) is in
+    rw (and-left (tableGood e) (not (bypass e)) codes, and-right (tableGood e) (not (bypass e)) codes, all-true (good.pageTests e) 1 pages, all-true (good.pageTests e) 2 pages)
 
 -- ---- one table, and one level
 

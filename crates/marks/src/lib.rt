@@ -6,6 +6,7 @@ use profile::limits::MOST_TABLE_CODE;
 use words;
 ghost use mathlib.Core.Path.{_≡_};
 ghost use Prim.Native.Nat.{_<_, _≤_};
+ghost use Rattle.profile.specs.Entry.{mostLevels};
 ghost use Rattle.marks.specs.Marks.{markAt, inTable, misses, tableMisses, wordMisses, levelMisses, levelsMiss, hasPages, entryMisses, anyMark};
 
 fn is_marked(marks: &[u64], below: u64, j: usize) -> bool
@@ -87,7 +88,7 @@ fn level_misses(memory: &[u64], marks: &[u64], bits: u64, below: u64) -> bool
 }
 
 fn levels_miss(memory: &[u64], marks: &[u64], bits: u64, levels: u64) -> bool
-    requires { ⌜ (bits < 64) × (levels ≤ 5) ⌝ }
+    requires { ⌜ (bits < 64) × (levels ≤ mostLevels) ⌝ }
     ensures { λ r. ⌜ r ≡ levelsMiss (now (memory .entry)) (now (marks .entry)) bits levels ⌝ }
 {
     let mut left: u64 = levels;

@@ -1,6 +1,6 @@
 -- The shape of a page table. Assumes nothing.
 use mathlib.Core.Path.{_≡_, refl, sym, _∙_}
-use mathlib.Core.Bool.{Bool, true, false, cond, _&&_, _||_}
+use mathlib.Core.Bool.{Bool, true, false, cond, _||_}
 use Prim.Native.Nat.{ℕ, _+_, _-_, _*_, _%_, _^_, _≤_, _<_}
 use native.Mathlib.Nat.{mul-le-mul, mod-eq-of-lt, lt-of-lt-of-le}
 use native.Mathlib.Omega.{arith}
@@ -13,24 +13,16 @@ use borrow.Author.Tests.{lt-leb, le-leb, ne-eqb}
 use Rattle.kinds.specs.Number.{pageBits}
 use Rattle.kinds.specs.NumberLaws.{bits-most}
 use Rattle.kinds.specs.Powers.{eight-shl}
-use Rattle.kinds.specs.Tests.{by-cases}
+use Rattle.kinds.specs.Tests.{and-true, and-false, by-cases}
 use Rattle.kinds.specs.declared.number.ByteAddress.{ByteAddress}
 use Rattle.kinds.specs.declared.number.PageSize.{PageSize}
 use Rattle.kinds.specs.declared.number.PageSize.the-variants.{K4, K64, M16, M256}
 use Rattle.kinds.specs.declared.record.TranslationEntry.{TranslationEntry}
-use Rattle.profile.specs.Entry.{pageSize, span, aligned, pagesGood, small}
+use Rattle.profile.specs.Entry.{pageSize, span, aligned, pagesGood, small, offsetBits, mostTableCode, codeBits, mostLevels}
 use Rattle.page_tables.specs.Shape.{known, sizeCode, shapeOf}
 use Rattle.page_tables.specs.declared.Shape.the-variants.{Pages, Bad}
 use Rattle.page_tables.specs.declared.SizeCode.{SizeCode}
 use Rattle.page_tables.specs.declared.SizeCode.the-variants.{Known, Unknown}
-
-and-true : (b : Bool) → (b && true) ≡ b
-and-true true = refl
-and-true false = refl
-
-and-false : (b : Bool) → (b && false) ≡ false
-and-false true = refl
-and-false false = refl
 
 -- `page_size`: the size of code n
 pub coded : (e : TranslationEntry) (n : ℕ) {r : SizeCode} → e .page ≡ n → r ≡ sizeCode (record { base = 0; levels = 0; table = 0; page = n }) → r ≡ sizeCode e
@@ -68,10 +60,10 @@ module _ (e : TranslationEntry) {c : SizeCode} (asks : c ≡ sizeCode e) where
   known-size z = sym (size-is e asks z)
 
 -- the ways out of `shape_of`, in the order of the code
-pub large-table : (e : TranslationEntry) → 31 < e .table → Bad ≡ shapeOf e
+pub large-table : (e : TranslationEntry) → mostTableCode < e .table → Bad ≡ shapeOf e
 large-table e h = rw (lt-leb _ _ h)
 
-module _ (e : TranslationEntry) (small : e .table ≤ 31) {c : SizeCode} (asks : c ≡ sizeCode e) where
+module _ (e : TranslationEntry) (small : e .table ≤ mostTableCode) {c : SizeCode} (asks : c ≡ sizeCode e) where
   pub unknown-size : c ≡ Unknown → Bad ≡ shapeOf e
   unfolding pagesGood
   unknown-size z = rw (le-leb _ _ small, unknown-is e asks z)
@@ -82,38 +74,38 @@ module _ (e : TranslationEntry) (small : e .table ≤ 31) {c : SizeCode} (asks :
     no-levels h = rw (le-leb _ _ small, known-is e asks z, lt-leb _ _ h)
 
     module _ (some : 1 ≤ e .levels) where
-      pub many-levels : 5 < e .levels → Bad ≡ shapeOf e
+      pub many-levels : mostLevels < e .levels → Bad ≡ shapeOf e
       unfolding pagesGood
       many-levels h = rw (le-leb _ _ small, known-is e asks z, le-leb _ _ some, lt-leb _ _ h)
 
-      module _ (few : e .levels ≤ 5) {b : ℕ} (bits : b ≡ pageBits s) where
-        span-is : span e ≡ b + e .levels * (e .table + 8)
+      module _ (few : e .levels ≤ mostLevels) {b : ℕ} (bits : b ≡ pageBits s) where
+        span-is : span e ≡ b + e .levels * (e .table + codeBits)
         unfolding span
         span-is = rw (size-is e asks z, bits)
 
-        pub wide : 59 < b + e .levels * (e .table + 8) → Bad ≡ shapeOf e
+        pub wide : offsetBits < b + e .levels * (e .table + codeBits) → Bad ≡ shapeOf e
         unfolding pagesGood
         wide h = rw (le-leb _ _ small, known-is e asks z, le-leb _ _ some, le-leb _ _ few, span-is, lt-leb _ _ h, and-false)
 
-        module _ (fit : b + e .levels * (e .table + 8) ≤ 59) {ok : Bool} (base : ok ≡ aligned (e .table + 8) (record { 0 = e .base })) where
+        module _ (fit : b + e .levels * (e .table + codeBits) ≤ offsetBits) {ok : Bool} (base : ok ≡ aligned (e .table + codeBits) (record { 0 = e .base })) where
           pub unaligned : ok ≡ false → Bad ≡ shapeOf e
           unfolding pagesGood
           unaligned t = rw (le-leb _ _ small, known-is e asks z, le-leb _ _ some, le-leb _ _ few, ← base, t)
 
-          pub shaped : ok ≡ true → Pages s (b + e .levels * (e .table + 8)) ≡ shapeOf e
+          pub shaped : ok ≡ true → Pages s (b + e .levels * (e .table + codeBits)) ≡ shapeOf e
           unfolding pagesGood
           shaped t = rw (le-leb _ _ small, known-is e asks z, le-leb _ _ some, le-leb _ _ few, ← base, t, span-is, le-leb _ _ fit, size-is e asks z)
 
 -- the bits of an index are few
-index-few : (t : ℕ) → t ≤ 31 → t + 8 ≤ 39
+index-few : (t : ℕ) → t ≤ mostTableCode → t + codeBits ≤ mostTableCode + codeBits
 index-few t h = omega arith
 
--- the sum of an entry's bits is small before it is known to be at most 59
-module _ (l t : ℕ) (few : l ≤ 5) (table : t ≤ 31) where
-  pub product-fits : Fits w64 (l * (t + 8))
+-- the sum of an entry's bits is small before it is known to be at most that of an offset
+module _ (l t : ℕ) (few : l ≤ mostLevels) (table : t ≤ mostTableCode) where
+  pub product-fits : Fits w64 (l * (t + codeBits))
   product-fits = omega (arith, mul-le-mul few (index-few t table))
 
-  pub span-fits : (s : PageSize) {b : ℕ} → b ≡ pageBits s → Fits w64 (b + l * (t + 8))
+  pub span-fits : (s : PageSize) {b : ℕ} → b ≡ pageBits s → Fits w64 (b + l * (t + codeBits))
   span-fits s e = omega (arith, bits-most s, mul-le-mul few (index-few t table))
 
 -- `aligned`
@@ -131,18 +123,18 @@ unfolding aligned
 at-zero n h b fits = rw (mod-eq-of-lt (lt-of-lt-of-le fits (pow-mono {i = 64} {j = 3 + n} (omega arith))))
 
 -- `is_small`
-pub large-code : (e : TranslationEntry) → 31 < e .table → false ≡ small e
+pub large-code : (e : TranslationEntry) → mostTableCode < e .table → false ≡ small e
 unfolding small
 large-code e h = rw (lt-leb _ _ h)
 
-module _ (e : TranslationEntry) (table : e .table ≤ 31) where
-  pub deep : 5 < e .levels → false ≡ small e
+module _ (e : TranslationEntry) (table : e .table ≤ mostTableCode) where
+  pub deep : mostLevels < e .levels → false ≡ small e
   unfolding small
   deep h = rw (le-leb _ _ table, lt-leb _ _ h)
 
-  pub small-bits : e .levels ≤ 5 → leb ((e .table + 8) * e .levels) 59 ≡ small e
+  pub small-bits : e .levels ≤ mostLevels → leb ((e .table + codeBits) * e .levels) offsetBits ≡ small e
   unfolding small
-  small-bits h = rw (le-leb _ _ table, le-leb _ _ h) (sym (and-true (leb ((e .table + 8) * e .levels) 59)))
+  small-bits h = rw (le-leb _ _ table, le-leb _ _ h) (sym (and-true (leb ((e .table + codeBits) * e .levels) offsetBits)))
 
-  pub bits-fit : e .levels ≤ 5 → Fits w64 ((e .table + 8) * e .levels)
+  pub bits-fit : e .levels ≤ mostLevels → Fits w64 ((e .table + codeBits) * e .levels)
   bits-fit h = omega (arith, mul-le-mul (index-few (e .table) table) h)

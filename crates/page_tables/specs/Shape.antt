@@ -5,7 +5,7 @@
 use mathlib.Core.Bool.{Bool, cond, _||_}
 use lib.Dec.{leb, eqb}
 use Rattle.kinds.specs.declared.record.TranslationEntry.{TranslationEntry}
-use Rattle.profile.specs.Entry.{pageSize, span, pagesGood}
+use Rattle.profile.specs.Entry.{pageSize, span, pagesGood, mostTableCode}
 use Rattle.page_tables.specs.declared.Shape.{Shape}
 use Rattle.page_tables.specs.declared.Shape.the-variants.{Pages, Bad}
 use Rattle.page_tables.specs.declared.SizeCode.{SizeCode}
@@ -18,4 +18,4 @@ abbrev pub sizeCode : TranslationEntry → SizeCode
 sizeCode e = cond (known e) (Known (pageSize e)) Unknown
 
 abbrev pub shapeOf : TranslationEntry → Shape
-shapeOf e = cond (leb (e .table) 31) (cond (pagesGood e) (Pages (pageSize e) (span e)) Bad) Bad
+shapeOf e = cond (leb (e .table) mostTableCode) (cond (pagesGood e) (Pages (pageSize e) (span e)) Bad) Bad

@@ -1,6 +1,7 @@
 -- 01, 'DMA': the class of an address, the translation entry that it picks, and what the entry says before memory is read.
 --     classOf a           what address bits 63 to 60 ask for; within class 0, 0xFFFF0000..0xFFFFFFFF is the 32-bit MSI window
 --     entryIn l p h       the first (h = 0) or second (h = 1) record of PE p in the table l of translation entries; entry f p h: in the tables f
+--     mostTableCode ..    the largest table code; the bits of an index beyond it; the most levels
 --     offsetBits          59, the bits of an offset; half a, offset a: the bit of the address above them, and its low 59 bits
 --     pageSize e          the page size of page code 1, 5, 13 or 17: 2 ^ (code + 11) bytes
 --     pageOf e o          the page of offset o, by that size
@@ -44,6 +45,15 @@ classOf a =
 abbrev pub offsetBits : ℕ
 offsetBits = 59
 
+abbrev pub mostTableCode : ℕ
+mostTableCode = 31
+
+abbrev pub codeBits : ℕ
+codeBits = 8
+
+abbrev pub mostLevels : ℕ
+mostLevels = 5
+
 abbrev pub half : ByteAddress → ℕ
 half a = a .0 / 2 ^ offsetBits % 2
 
@@ -68,7 +78,7 @@ abbrev pub pageOf : TranslationEntry → (offset : ByteAddress) → PageNumber
 pageOf e o = pageNumber (pageSize e) o
 
 abbrev pub indexBits : TranslationEntry → ℕ
-indexBits e = e .table + 8
+indexBits e = e .table + codeBits
 
 unfoldable pub span : TranslationEntry → ℕ
 span e = pageBits (pageSize e) + e .levels * indexBits e
@@ -78,7 +88,7 @@ unfoldable pub aligned : (bits : ℕ) → ByteAddress → Bool
 aligned bits b = eqb (b .0 % 2 ^ (3 + bits)) 0
 
 unfoldable pub tableGood : TranslationEntry → Bool
-tableGood e = leb 1 (e .table) && leb (e .table) 31
+tableGood e = leb 1 (e .table) && leb (e .table) mostTableCode
 
 abbrev pub bypass : TranslationEntry → Bool
 bypass e = eqb (e .page) 0
@@ -89,7 +99,7 @@ bypassGood e = ltb (e .base) (e .levels) && leb (e .levels) (2 ^ 35)
 abbrev pub pageTests : TranslationEntry → List Bool
 pageTests e =
     (eqb (e .page) 1 || eqb (e .page) 5 || eqb (e .page) 13 || eqb (e .page) 17)
-    ∷ leb 1 (e .levels) ∷ leb (e .levels) 5 ∷ aligned (indexBits e) (record { 0 = e .base }) ∷ leb (span e) offsetBits ∷ []
+    ∷ leb 1 (e .levels) ∷ leb (e .levels) mostLevels ∷ aligned (indexBits e) (record { 0 = e .base }) ∷ leb (span e) offsetBits ∷ []
 
 unfoldable pub pagesGood : TranslationEntry → Bool
 pagesGood e = all (pageTests e)
@@ -101,7 +111,7 @@ unfoldable pub walks : TranslationEntry → (offset : ByteAddress) → Bool
 walks e o = paged e && ltb (o .0) (2 ^ span e)
 
 abbrev pub smallTests : TranslationEntry → List Bool
-smallTests e = leb (e .table) 31 ∷ leb (e .levels) 5 ∷ leb (indexBits e * e .levels) offsetBits ∷ []
+smallTests e = leb (e .table) mostTableCode ∷ leb (e .levels) mostLevels ∷ leb (indexBits e * e .levels) offsetBits ∷ []
 
 unfoldable pub small : TranslationEntry → Bool
 small e = all (smallTests e)

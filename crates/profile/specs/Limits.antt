@@ -1,20 +1,24 @@
 -- 01's limits, in numbers: at each limit and one past it, in one table with one statement over it.
 --     Limit               what a test of the definition gives, and what 01 says
---     lent ..             a row of `sized`: N, M, R and the eight lengths
+--     lent n m r w f      a row of `sized`: N, M, R and the words of memory, with the lengths of all tables changed by f; most: in digits
+--     walked t l          a row of `small`: a table code and a number of levels
 --     asked q             a row of `formed`
 --     sizes, lengths      the numbers N, M, R and the words of memory, with lengths that agree; each length one less and one more
+--     depths              page tables that can be walked, and that cannot
 --     forms               lengths of a DMA, widths of a load and a store, priorities
 --     limits              all of them
 --     limits-hold         THE STATEMENT: each test gives what its row says
 -- Assumes nothing.
 use mathlib.Core.Path.{_≡_, refl}
-use mathlib.Core.Bool.{Bool, true, false}
+use mathlib.Core.Bool.{Bool, true, false, cond}
 use mathlib.Core.List.{List, [], _∷_, _++_, map}
-use Prim.Native.Nat.{ℕ, _-_, _^_}
+use Prim.Native.Nat.{ℕ, _+_, _-_, _*_, _^_}
+use lib.Dec.{eqb}
 use Rattle.kinds.specs.declared.request.Part.the-variants.{Mmio}
 use Rattle.kinds.specs.declared.request.Request.{Request}
 use Rattle.kinds.specs.declared.request.Request.the-variants.{Error, Clear, End, Priority, Unnamed}
-use Rattle.profile.specs.Tables.{sized}
+use Rattle.profile.specs.Entry.{small}
+use Rattle.profile.specs.Tables.{entryWords, peerWords, interruptWords, stateWords, windowWords, segmentCount, sized}
 use Rattle.profile.specs.Step.{accessFormed, dmaFormed, formed}
 use Rattle.profile.specs.Case.{read, write, load, store}
 
@@ -22,58 +26,90 @@ pub record Limit : Type 0 where
   pub gives : Bool
   pub good : Bool
 
-abbrev pub lent : (n m r requesters entries memory peers interrupts windows segments state : ℕ) → Bool → Limit
-lent n m r a b c d e f g h x = record {
+-- the length of table k, counted in 01's order, one less, one more
+abbrev pub same : (i n : ℕ) → ℕ
+same i n = n
+
+abbrev pub less : (k i n : ℕ) → ℕ
+less k i n = cond (eqb i k) (n - 1) n
+
+abbrev pub more : (k i n : ℕ) → ℕ
+more k i n = cond (eqb i k) (n + 1) n
+
+abbrev pub lent : (n m r memory : ℕ) → (ℕ → ℕ → ℕ) → Bool → Limit
+lent n m r w f x = record {
   gives = sized (record { pes = n; interrupts = m; requesters = r })
-      (record { requesters = a; entries = b; memory = c; peers = d; interrupts = e; windows = f; segments = g; state = h });
+      (record {
+        requesters = f 0 r;
+        entries = f 1 (n * entryWords);
+        memory = f 2 w;
+        peers = f 3 (n * peerWords);
+        interrupts = f 4 (m * interruptWords);
+        windows = f 5 windowWords;
+        segments = f 6 segmentCount;
+        state = f 7 (n * stateWords);
+      });
   good = x;
+}
+
+-- the most of everything, in digits
+abbrev pub most : Limit
+most = record {
+  gives = sized (record { pes = 256; interrupts = 2048; requesters = 65536 })
+      (record { requesters = 65536; entries = 2048; memory = 1048576; peers = 1024; interrupts = 8192; windows = 67; segments = 256; state = 768 });
+  good = true;
 }
 
 abbrev pub asked : Request → Bool → Limit
 asked q x = record { gives = formed q; good = x }
 
+abbrev pub walked : (table levels : ℕ) → Bool → Limit
+walked t l x = record { gives = small (record { base = 0; levels = l; table = t; page = 1 }); good = x }
+
 unfoldable pub sizes : List Limit
 sizes =
     -- N
-    lent 0 8 8 8 0 0 0 32 67 256 0 false
-    ∷ lent 1 8 8 8 8 0 4 32 67 256 3 true
-    ∷ lent 256 8 8 8 2048 0 1024 32 67 256 768 true
-    ∷ lent 257 8 8 8 2056 0 1028 32 67 256 771 false
+    lent 0 8 8 0 same false
+    ∷ lent 1 8 8 0 same true
+    ∷ lent 256 8 8 0 same true
+    ∷ lent 257 8 8 0 same false
     -- M
-    ∷ lent 4 0 8 8 32 0 16 0 67 256 12 true
-    ∷ lent 4 2048 8 8 32 0 16 8192 67 256 12 true
-    ∷ lent 4 2049 8 8 32 0 16 8196 67 256 12 false
+    ∷ lent 4 0 8 0 same true
+    ∷ lent 4 2048 8 0 same true
+    ∷ lent 4 2049 8 0 same false
     -- R
-    ∷ lent 4 8 0 0 32 0 16 32 67 256 12 false
-    ∷ lent 4 8 1 1 32 0 16 32 67 256 12 true
-    ∷ lent 4 8 65536 65536 32 0 16 32 67 256 12 true
-    ∷ lent 4 8 65537 65537 32 0 16 32 67 256 12 false
+    ∷ lent 4 8 0 0 same false
+    ∷ lent 4 8 1 0 same true
+    ∷ lent 4 8 65536 0 same true
+    ∷ lent 4 8 65537 0 same false
     -- memory
-    ∷ lent 4 8 8 8 32 1048576 16 32 67 256 12 true
-    ∷ lent 4 8 8 8 32 1048577 16 32 67 256 12 false
+    ∷ lent 4 8 8 1048576 same true
+    ∷ lent 4 8 8 1048577 same false
     -- all at their limits
-    ∷ lent 1 0 1 1 8 0 4 0 67 256 3 true
-    ∷ lent 256 2048 65536 65536 2048 1048576 1024 8192 67 256 768 true
+    ∷ lent 1 0 1 0 same true
+    ∷ most
     ∷ []
+
+-- every table but memory, which has no length of its own
+abbrev pub others : List ℕ
+others = 0 ∷ 1 ∷ 3 ∷ 4 ∷ 5 ∷ 6 ∷ 7 ∷ []
 
 unfoldable pub lengths : List Limit
 lengths =
-    lent 4 8 8 8 32 100 16 32 67 256 12 true
-    -- requesters, translation entries, peers, interrupts, windows, segments, state
-    ∷ lent 4 8 8 7 32 100 16 32 67 256 12 false
-    ∷ lent 4 8 8 9 32 100 16 32 67 256 12 false
-    ∷ lent 4 8 8 8 31 100 16 32 67 256 12 false
-    ∷ lent 4 8 8 8 33 100 16 32 67 256 12 false
-    ∷ lent 4 8 8 8 32 100 15 32 67 256 12 false
-    ∷ lent 4 8 8 8 32 100 17 32 67 256 12 false
-    ∷ lent 4 8 8 8 32 100 16 31 67 256 12 false
-    ∷ lent 4 8 8 8 32 100 16 33 67 256 12 false
-    ∷ lent 4 8 8 8 32 100 16 32 66 256 12 false
-    ∷ lent 4 8 8 8 32 100 16 32 68 256 12 false
-    ∷ lent 4 8 8 8 32 100 16 32 67 255 12 false
-    ∷ lent 4 8 8 8 32 100 16 32 67 257 12 false
-    ∷ lent 4 8 8 8 32 100 16 32 67 256 11 false
-    ∷ lent 4 8 8 8 32 100 16 32 67 256 13 false
+    lent 4 8 8 100 same true
+    ∷ map (λ k. lent 4 8 8 100 (less k) false) others
+    ++ map (λ k. lent 4 8 8 100 (more k) false) others
+
+-- table codes and levels, and the bits of all indexes together
+unfoldable pub depths : List Limit
+depths =
+    walked 31 1 true
+    ∷ walked 32 1 false
+    ∷ walked 1 5 true
+    ∷ walked 1 6 false
+    ∷ walked 21 2 true
+    ∷ walked 22 2 false
+    ∷ walked 4 5 false
     ∷ []
 
 unfoldable pub forms : List Limit
@@ -126,9 +162,9 @@ forms =
     ∷ []
 
 unfoldable pub limits : List Limit
-unfolding sizes lengths forms
-limits = sizes ++ lengths ++ forms
+unfolding sizes lengths depths forms
+limits = sizes ++ lengths ++ depths ++ forms
 
 pub limits-hold : map (λ c. c .gives) limits ≡ map (λ c. c .good) limits
-unfolding limits sized formed dmaFormed accessFormed
+unfolding limits sized small formed dmaFormed accessFormed
 limits-hold = refl

@@ -25,13 +25,13 @@ use Rattle.kinds.specs.Tests.{by-cases, clash, and-left, and-right, all-true}
 use Rattle.kinds.specs.Words.{at}
 use Rattle.kinds.specs.declared.lookup.Found.{Found}
 use Rattle.kinds.specs.declared.lookup.Found.the-variants.{Frame, Forbidden, Outside}
-use Rattle.kinds.specs.declared.lookup.Translated.the-variants.{To, Fault}
+use Rattle.kinds.specs.declared.lookup.Translated.the-variants.{To}
 use Rattle.kinds.specs.declared.number.ByteAddress.{ByteAddress}
 use Rattle.kinds.specs.declared.number.PageNumber.{PageNumber}
 use Rattle.kinds.specs.declared.number.PageSize.{PageSize}
 use Rattle.kinds.specs.declared.record.TranslationEntry.{TranslationEntry}
 use Rattle.kinds.specs.declared.request.Direction.{Direction}
-use Rattle.profile.specs.Entry.{pageSize, pageOf, indexBits, span, offsetBits, tableGood, bypass, pageTests, pagesGood, paged, small, walks, unwalked}
+use Rattle.profile.specs.Entry.{pageSize, pageOf, indexBits, span, offsetBits, tableGood, bypass, pageTests, pagesGood, paged, small, walks, unwalked, mostTableCode}
 use Rattle.profile.specs.Walk.{Walked, place, nextBase, leads, turn, walkFrom, walk, landed, byPages, translated, readsBy}
 
 pub walk-zero : (m : List ℕ) (n : ℕ) (b : ByteAddress) (q : PageNumber) → walkFrom m zero n b q ≡ record { found = Forbidden 0; reads = [] }
@@ -179,7 +179,7 @@ unfolding paged small tableGood pagesGood
 paged-small e t =
     let good = and-right (tableGood e && not (bypass e)) (pagesGood e) t in
     let table = and-left (tableGood e) (not (bypass e)) (and-left (tableGood e && not (bypass e)) (pagesGood e) t) in
-    rw (and-right (leb 1 (e .table)) (leb (e .table) 31) table, all-true (pageTests e) 2 good)
+    rw (and-right (leb 1 (e .table)) (leb (e .table) mostTableCode) table, all-true (pageTests e) 2 good)
     (rw (le-leb (indexBits e * e .levels) offsetBits (span-bits e (leb-true (span e) offsetBits (all-true (pageTests e) 4 good)))))
 
 module _ (m : List ℕ) (e : TranslationEntry) (o : ByteAddress) (w : walks e o ≡ true) where

@@ -10,7 +10,7 @@ ghost use mathlib.Core.Path.{_≡_};
 ghost use Prim.Native.Nat.{_^_, _≤_, _<_};
 ghost use lib.ListN.{length, take};
 ghost use Rattle.line_end.specs.Promise.{streamOf};
-ghost use Rattle.tables_in_use.specs.Lent.{lengthsOf};
+ghost use Rattle.sizes.specs.Tables.{lengthsOf};
 ghost use Rattle.stream.specs.Stream.{lineKept};
 ghost use Rattle.replay.specs.Promise.{KeptTo, MovedTo, movedBy};
 

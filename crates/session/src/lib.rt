@@ -18,7 +18,8 @@ use tables_in_use::Reply;
 ghost use mathlib.Core.Path.{_≡_};
 ghost use Prim.Native.Nat.{_*_};
 ghost use lib.ListN.{take};
-ghost use Rattle.tables_in_use.specs.Lent.{lent, lengthsOf};
+ghost use Rattle.sizes.specs.Tables.{lengthsOf};
+ghost use Rattle.tables_in_use.specs.Lent.{lent};
 ghost use Rattle.session.specs.Promise.{RanLine, Requested};
 
 // The part of a table that is in use: its first `count` times `each` words, or all where it has no more.

@@ -15,6 +15,32 @@ ghost use mathlib.Core.Path.{_≡_};
 ghost use Prim.Native.Nat.{_≤_};
 ghost use Rattle.kinds.specs.Tests.{all};
 ghost use Rattle.profile.specs.Tables.{mostPes, mostInterrupts, limits, dmaLengths, otherLengths, sized};
+ghost use Rattle.sizes.specs.Tables.{lengthsOf};
+
+// The lengths of the lent tables.
+pub fn lengths_of(
+    requesters: &[u16],
+    entries: &[u64],
+    memory: &[u64],
+    peers: &[u64],
+    interrupts: &[u64],
+    windows: &[u64],
+    segments: &[u16],
+    state: &[u64],
+) -> Lengths
+    ensures { λ r. ⌜ r ≡ lengthsOf (now (requesters .entry)) (now (entries .entry)) (now (memory .entry)) (now (peers .entry)) (now (interrupts .entry)) (now (windows .entry)) (now (segments .entry)) (now (state .entry)) ⌝ }
+{
+    Lengths {
+        requesters: requesters.len() as u64,
+        entries: entries.len() as u64,
+        memory: memory.len() as u64,
+        peers: peers.len() as u64,
+        interrupts: interrupts.len() as u64,
+        windows: windows.len() as u64,
+        segments: segments.len() as u64,
+        state: state.len() as u64,
+    }
+}
 
 pub fn sized(sizes: Sizes, lengths: Lengths) -> bool
     ensures { λ r. ⌜ r ≡ sized sizes lengths ⌝ }

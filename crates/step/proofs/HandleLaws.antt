@@ -14,6 +14,7 @@ use Rattle.kinds.specs.declared.outcome.Effect.{Effect}
 use Rattle.kinds.specs.declared.outcome.Effect.the-variants.{Keep, Freeze, Release, Interrupt}
 use Rattle.kinds.specs.declared.outcome.ErrorRecord.{ErrorRecord}
 use Rattle.kinds.specs.declared.outcome.Outcome.{Outcome}
+use Rattle.kinds.specs.declared.record.Lengths.{Lengths}
 use Rattle.kinds.specs.declared.request.Part.{Part}
 use Rattle.kinds.specs.declared.request.Request.{Request}
 use Rattle.isolation.specs.Isolation.{isolation}
@@ -21,11 +22,11 @@ use Rattle.profile.specs.Freeze.{vectorIn, taken, froze, released}
 use Rattle.profile.specs.Msi.{stored}
 use Rattle.profile.specs.Owner.{owner}
 use Rattle.profile.specs.RequestLaws.{Placed, checked-owner}
-use Rattle.profile.specs.Step.{finish, act, actBy, checkedOn, decided, after}
+use Rattle.profile.specs.Step.{finish, act, actBy, checked, checkedOn, decided, after}
 use Rattle.profile.specs.Tables.{Tables, Live, lengths, sized}
 use Rattle.sizes.specs.Tables.{live}
 use Rattle.decision.specs.Finished.{finished}
-use Rattle.decision.specs.FinishedLaws.{finished-is}
+use Rattle.decision.specs.FinishedLaws.{checked-is, decided-is}
 use Rattle.step.specs.Promise.{Handled}
 
 -- `taken`
@@ -60,14 +61,20 @@ placed f m o (Ready p x) s h = rw h
 placed f m o (Walk p r q) s h = rw h
 
 -- `handle`
-pub handled : (f : Tables) (m : List ℕ) (s : Live) (q : Request) {c : Check} {o : Outcome} {t : Live}
-    → c ≡ shown (checkedOn f (length m) s q) → o ≡ finished m c → t ≡ act (f .sizes .pes) (f .peers) (c .pe) (o .effect) s → Handled f m s q (o .answer) t
-handled f m s q {c} {o} h k j =
-    let said : o ≡ decided f m s q = k ∙ rw h (finished-is m (checkedOn f (length m) s q)) in
-    record {
-      answers = ap (λ (u : Outcome). u .answer) said;
-      numbers = ap (λ (u : Outcome). numbered (u .answer)) said;
-      leaves = j ∙ rw (said, h) (placed f m (owner f s q) (checkedOn f (length m) s q) s
-          (checked-owner (f .sizes) (f .requesters) (f .entries) (f .windows) (f .segments) s (sized (f .sizes) (lengths f (length m) s)) q));
-      isolation = isolation;
-    }
+module _ (f : Tables) (m : List ℕ) (s : Live) (q : Request) {k : Lengths} {c : Check} {o : Outcome} (measured : k ≡ lengths f (length m) s)
+    (checks : c ≡ shown (checked (f .sizes) (f .requesters) (f .entries) (f .windows) (f .segments) s (sized (f .sizes) k) q)) (ends : o ≡ finished m c) where
+  said : o ≡ decided f m s q
+  said = decided-is f m s q measured checks ends
+
+  at-owner : act (f .sizes .pes) (f .peers) (c .pe) (o .effect) s ≡ after f m s q
+  at-owner =
+      rw (said, checked-is f m s q measured checks) (placed f m (owner f s q) (checkedOn f (length m) s q) s
+      (checked-owner (f .sizes) (f .requesters) (f .entries) (f .windows) (f .segments) s (sized (f .sizes) (lengths f (length m) s)) q))
+
+  pub handled : {t : Live} → t ≡ act (f .sizes .pes) (f .peers) (c .pe) (o .effect) s → Handled f m s q (o .answer) t
+  handled acts = record {
+    answers = ap (λ (u : Outcome). u .answer) said;
+    numbers = ap (λ (u : Outcome). numbered (u .answer)) said;
+    leaves = acts ∙ at-owner;
+    isolation = isolation;
+  }

@@ -4,14 +4,14 @@
 --     once n              0 where n is 0, else 1: windows and segments are there as soon as there are PEs
 --     roomFor l k         whether lists of lengths k can hold what line l asks for: a size line asks for tables of at least one
 --                         PE, no other line for anything
---     peRoom, otherRoom   the same of the tables with words for each PE, and of the others
---     lengthsOf q e ..    the lengths of the lent lists
+--     peRoom, otherRoom   the same of the tables with words for each PE, and of the others; peRooms, otherRooms: table by table
 -- Assumes nothing.
 use mathlib.Core.Bool.{Bool, true, cond, _&&_}
-use mathlib.Core.List.{List}
+use mathlib.Core.List.{List, [], _∷_}
 use Prim.Native.Nat.{ℕ, _*_}
 use lib.Dec.{eqb, leb}
 use lib.ListN.{length, take}
+use Rattle.kinds.specs.Tests.{all}
 use Rattle.kinds.specs.declared.record.Lengths.{Lengths}
 use Rattle.line_text.specs.declared.Line.{Line}
 use Rattle.line_text.specs.declared.Line.the-variants.{Size, Set, Request, Bad}
@@ -35,29 +35,24 @@ lent x q e m p n w g t =
     (take (once (x .sizes .pes) * segmentCount) g)
     (take (x .sizes .pes * stateWords) t)
 
-abbrev pub lengthsOf : (requesters entries memory peers interrupts windows segments state : List ℕ) → Lengths
-lengthsOf q e m p n w g t = record {
-  requesters = length q;
-  entries = length e;
-  memory = length m;
-  peers = length p;
-  interrupts = length n;
-  windows = length w;
-  segments = length g;
-  state = length t;
-}
-
 -- the tables with words for each PE; the others
+abbrev pub peRooms : (n : ℕ) → Lengths → List Bool
+peRooms n k = leb (n * entryWords) (k .entries) ∷ leb (n * peerWords) (k .peers) ∷ leb (n * stateWords) (k .state) ∷ []
+
+abbrev pub otherRooms : (m r w : ℕ) → Lengths → List Bool
+otherRooms m r w k =
+    leb (m * interruptWords) (k .interrupts)
+    ∷ leb r (k .requesters)
+    ∷ leb w (k .memory)
+    ∷ leb windowWords (k .windows)
+    ∷ leb segmentCount (k .segments)
+    ∷ []
+
 abbrev pub peRoom : (n : ℕ) → Lengths → Bool
-peRoom n k = leb (n * entryWords) (k .entries) && leb (n * peerWords) (k .peers) && leb (n * stateWords) (k .state)
+peRoom n k = all (peRooms n k)
 
 abbrev pub otherRoom : (m r w : ℕ) → Lengths → Bool
-otherRoom m r w k =
-    leb (m * interruptWords) (k .interrupts)
-    && leb r (k .requesters)
-    && leb w (k .memory)
-    && leb windowWords (k .windows)
-    && leb segmentCount (k .segments)
+otherRoom m r w k = all (otherRooms m r w k)
 
 unfoldable pub roomFor : Line → Lengths → Bool
 roomFor (Size n m r w) k = leb 1 n && peRoom n k && otherRoom m r w k

@@ -18,7 +18,7 @@ use Rattle.kinds.specs.declared.number.PageNumber.{PageNumber}
 use Rattle.kinds.specs.declared.number.PageSize.{PageSize}
 use Rattle.kinds.specs.declared.record.TranslationEntry.{TranslationEntry}
 use Rattle.kinds.specs.declared.request.Direction.{Direction}
-use Rattle.profile.specs.Entry.{pageSize, indexBits, offsetBits, smallTests, small}
+use Rattle.profile.specs.Entry.{pageSize, indexBits, offsetBits, smallTests, small, mostTableCode, mostLevels}
 use Rattle.profile.specs.Walk.{walk, allows, landed, walkedPage, byPages}
 use Rattle.translation.specs.Turn.{Shaped, counted, summed}
 use Rattle.translation.specs.declared.translate.Translation.{Translation}
@@ -63,8 +63,8 @@ module _ (m : List ℕ) (e : TranslationEntry) (q : PageNumber) {ok : Bool} (ask
 small-shaped : (e : TranslationEntry) → small e ≡ true → Shaped e
 unfolding small
 small-shaped e s = record {
-  table = leb-true (e .table) 31 (all-true (smallTests e) 0 s);
-  levels = leb-true (e .levels) 5 (all-true (smallTests e) 1 s);
+  table = leb-true (e .table) mostTableCode (all-true (smallTests e) 0 s);
+  levels = leb-true (e .levels) mostLevels (all-true (smallTests e) 1 s);
   indexes = leb-true (indexBits e * e .levels) offsetBits (all-true (smallTests e) 2 s);
 }
 

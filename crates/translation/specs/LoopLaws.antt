@@ -9,6 +9,7 @@ use native.Mathlib.Numerals.{add-one, sub-one}
 use native.Mathlib.Omega.{arith}
 use mir.Syntax.{w64}
 use mir.Val.{Fits}
+use Rattle.profile.specs.Entry.{offsetBits, mostLevels}
 use Rattle.kinds.specs.Words.{at}
 use Rattle.kinds.specs.declared.lookup.Found.{Found}
 use Rattle.kinds.specs.declared.lookup.Found.the-variants.{Forbidden}
@@ -37,10 +38,10 @@ pred-below : (l : ℕ) → l - 1 ≤ l
 pred-below l = omega arith
 
 -- the shift of the level below
-pub shift-less : (n l : ℕ) → n * l ≤ 59 → n * (l - 1) ≤ 59
+pub shift-less : (n l : ℕ) → n * l ≤ offsetBits → n * (l - 1) ≤ offsetBits
 shift-less n l h = omega (arith, mul-le-mul-left n (pred-below l))
 
-pub shift-below : (n l : ℕ) → n * l ≤ 59 → n * (l - 1) < 64
+pub shift-below : (n l : ℕ) → n * l ≤ offsetBits → n * (l - 1) < 64
 shift-below n l h = omega (arith, shift-less n l h)
 
 -- a turn of the loop; `same` is its invariant
@@ -50,7 +51,7 @@ module _ (m : List ℕ) (q : PageNumber) (n top l words : ℕ) (first base : Byt
   turned : counted (walkFrom m top n first q) ≡ later words (taken x (counted (walkFrom m (l - 1) n (nextBase (at m (place (l - 1) n base q))) q)))
   turned = same ∙ ap (later words) (level m q n l base some ∙ rw (← e))
 
-  pub words-fit : l + words ≤ 5 → {f : Found} {c : ℕ} → x ≡ End f c → Fits w64 (words + c)
+  pub words-fit : l + words ≤ mostLevels → {f : Found} {c : ℕ} → x ≡ End f c → Fits w64 (words + c)
   words-fit h {f} {c} z = omega (arith, step-words m (l - 1) n base q f c (sym e ∙ z))
 
   pub ended : {f : Found} {c : ℕ} → x ≡ End f c → _≡_ {A = Walked} (record { found = f; words = words + c }) (counted (walkFrom m top n first q))

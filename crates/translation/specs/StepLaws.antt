@@ -14,18 +14,18 @@ use Rattle.kinds.specs.Powers.{one-shl-pos, masked, mod-lt-pow, cleared}
 use Rattle.kinds.specs.declared.lookup.Found.the-variants.{Frame, Forbidden, Outside}
 use Rattle.kinds.specs.declared.number.ByteAddress.{ByteAddress}
 use Rattle.kinds.specs.declared.number.PageNumber.{PageNumber}
-use Rattle.profile.specs.Entry.{aligned}
+use Rattle.profile.specs.Entry.{aligned, mostTableCode, codeBits}
 use Rattle.profile.specs.Walk.{place, nextBase, leads}
 use Rattle.translation.specs.Turn.{next, stepped}
 use Rattle.translation.specs.declared.walk.Next.{Next}
 use Rattle.translation.specs.declared.walk.Next.the-variants.{Table, End}
 
-module _ {n : ℕ} (few : n ≤ 39) where
+module _ {n : ℕ} (few : n ≤ mostTableCode + codeBits) where
   pub table-words : 1 ≤ 1 * 2 ^ n % 2 ^ 64
   table-words = one-shl-pos n (omega arith)
 
   pub place-fits : (b x : ℕ) → b < 2 ^ 64 → Fits w64 (b / 8 + bitAnd x (1 * 2 ^ n % 2 ^ 64 - 1))
-  place-fits b x h = omega (arith, masked x n (omega arith), mod-lt-pow x n 39 few)
+  place-fits b x h = omega (arith, masked x n (omega arith), mod-lt-pow x n (mostTableCode + codeBits) few)
 
   pub placed : (k : ℕ) (b : ByteAddress) (q : PageNumber) → b .0 / 8 + bitAnd (q .0 / 2 ^ (n * k)) (1 * 2 ^ n % 2 ^ 64 - 1) ≡ place k n b q
   placed k b q = rw (masked (q .0 / 2 ^ (n * k)) n (omega arith))

@@ -16,7 +16,7 @@ use Rattle.kinds.specs.declared.lookup.Found.the-variants.{Frame, Forbidden, Ou
 use Rattle.kinds.specs.declared.number.ByteAddress.{ByteAddress}
 use Rattle.kinds.specs.declared.number.PageNumber.{PageNumber}
 use Rattle.kinds.specs.declared.record.TranslationEntry.{TranslationEntry}
-use Rattle.profile.specs.Entry.{indexBits, offsetBits}
+use Rattle.profile.specs.Entry.{indexBits, offsetBits, mostTableCode, mostLevels}
 use Rattle.profile.specs.Walk.{place, nextBase, leads}
 use Rattle.profile.specs.Walk as definition
 use Rattle.translation.specs.declared.translate.Translation.{Translation}
@@ -25,8 +25,8 @@ use Rattle.translation.specs.declared.walk.Next.the-variants.{Table, End
 use Rattle.translation.specs.declared.walk.Walked.{Walked}
 
 pub record Shaped (e : TranslationEntry) : Type 0 where
-  pub table : e .table ≤ 31
-  pub levels : e .levels ≤ 5
+  pub table : e .table ≤ mostTableCode
+  pub levels : e .levels ≤ mostLevels
   pub indexes : indexBits e * e .levels ≤ offsetBits
 
 unfoldable pub next : (below bits place word : ℕ) → Next

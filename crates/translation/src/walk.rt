@@ -7,7 +7,8 @@ use page_tables::aligned;
 use page_tables::is_small;
 use profile::limits::CODE_BITS;
 ghost use mathlib.Core.Path.{_≡_};
-ghost use Prim.Native.Nat.{_*_, _<_, _≤_};
+ghost use Prim.Native.Nat.{_+_, _*_, _<_, _≤_};
+ghost use Rattle.profile.specs.Entry.{mostTableCode, codeBits};
 ghost use Rattle.profile.specs.Walk.{place, nextBase, walk, walkedPage};
 ghost use Rattle.translation.specs.Turn.{Shaped, next, stepped, counted};
 
@@ -25,7 +26,7 @@ pub(crate) enum Next {
 
 // The number of the memory word that a page has in the table at `base`, with `below` levels below it.
 pub(crate) fn place(below: u64, bits: u64, base: ByteAddress, page: PageNumber) -> usize
-    requires { ⌜ (bits ≤ 39) × (bits * below < 64) ⌝ }
+    requires { ⌜ (bits ≤ mostTableCode + codeBits) × (bits * below < 64) ⌝ }
     ensures { λ r. ⌜ r ≡ place below bits base page ⌝ }
 {
     let shift = bits * below;
@@ -41,7 +42,7 @@ fn next_base(word: u64) -> ByteAddress
 
 // What the word at a place comes to, with `below` levels below its table.
 pub(crate) fn turn(below: u64, bits: u64, place: u64, word: u64) -> Next
-    requires { ⌜ bits ≤ 39 ⌝ }
+    requires { ⌜ bits ≤ mostTableCode + codeBits ⌝ }
     ensures { λ r. ⌜ r ≡ next below bits place word ⌝ }
 {
     if below == 0 {
@@ -74,7 +75,7 @@ pub(crate) fn step(
     base: ByteAddress,
     page: PageNumber,
 ) -> Next
-    requires { ⌜ (bits ≤ 39) × (bits * below < 64) ⌝ }
+    requires { ⌜ (bits ≤ mostTableCode + codeBits) × (bits * below < 64) ⌝ }
     ensures { λ r. ⌜ r ≡ stepped (now (memory .entry)) below bits base page ⌝ }
 {
     let at = place(below, bits, base, page);

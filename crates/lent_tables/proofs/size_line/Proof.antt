@@ -4,6 +4,9 @@ use borrow.Author.Needs.{needs}
 use Rattle.lent_tables.proofs.size_line.Statement.{statement}
 use Rattle.lent_tables.proofs.size_line.Tie as tie
 
+lengths-of-requires : tie.Need-lengths-of-requires
+lengths-of-requires c κs = search needs
+
 room-for-requires : tie.Need-room-for-requires
 room-for-requires c κs = search needs
 
@@ -37,6 +40,30 @@ same-length-8 c = search needs
 returns : tie.Need-returns
 returns c = search laws.sized-room
 
+same-length-9 : tie.Need-same-length-9
+same-length-9 c = search needs
+
+same-length-10 : tie.Need-same-length-10
+same-length-10 c = search needs
+
+same-length-11 : tie.Need-same-length-11
+same-length-11 c = search needs
+
+same-length-12 : tie.Need-same-length-12
+same-length-12 c = search needs
+
+same-length-13 : tie.Need-same-length-13
+same-length-13 c = search needs
+
+same-length-14 : tie.Need-same-length-14
+same-length-14 c = search needs
+
+same-length-15 : tie.Need-same-length-15
+same-length-15 c = search needs
+
+same-length-16 : tie.Need-same-length-16
+same-length-16 c = search needs
+
 returns-2 : tie.Need-returns-2
 returns-2 c = search laws.sized-none
 
@@ -44,6 +71,7 @@ pub size-line-spec : {M : Type 1} → statement M
 size-line-spec =
     tie.close
     (tie.spec
+    lengths-of-requires
     room-for-requires
     clear-all-requires
     same-length
@@ -55,4 +83,12 @@ size-line-spec =
     same-length-7
     same-length-8
     returns
+    same-length-9
+    same-length-10
+    same-length-11
+    same-length-12
+    same-length-13
+    same-length-14
+    same-length-15
+    same-length-16
     returns-2)

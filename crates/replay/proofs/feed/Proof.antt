@@ -7,7 +7,7 @@ use Rattle.kinds.specs.declared.record.Lengths.{Lengths}
 use Rattle.line_end.specs.BuffersLaws.{fit-both, fits-on}
 use Rattle.line_end.specs.Promise.{streamOf}
 use Rattle.stream.specs.Stream.{lineKept}
-use Rattle.tables_in_use.specs.Lent.{lengthsOf}
+use Rattle.sizes.specs.Tables.{lengthsOf}
 use Rattle.replay.proofs.TakeLaws as laws
 use Rattle.replay.proofs.TakeLaws.{Here}
 use Rattle.replay.proofs.feed.Statement.{statement}

@@ -1,8 +1,11 @@
 -- `decision::decide::decide` meets its contract. Assumes nothing.
-use Rattle.decision.proofs.DecideLaws as laws
+use Rattle.decision.specs.FinishedLaws as laws
 use borrow.Author.Needs.{needs}
 use Rattle.decision.proofs.decide.decide.Statement.{statement}
 use Rattle.decision.proofs.decide.decide.Tie as tie
+
+lengths-of-requires : tie.Need-lengths-of-requires
+lengths-of-requires c κs = search needs
 
 check-requires : tie.Need-check-requires
 check-requires c κs = search needs
@@ -14,4 +17,4 @@ returns : tie.Need-returns
 returns c = search laws.decided-is
 
 pub decide-spec : {M : Type 1} → statement M
-decide-spec = tie.close (tie.spec check-requires finish-requires returns)
+decide-spec = tie.close (tie.spec lengths-of-requires check-requires finish-requires returns)

@@ -3,6 +3,7 @@
 use mathlib.Core.Path.{_≡_}
 use Prim.Native.Nat.{_+_, _*_, _≤_}
 use borrow.Author.Needs.{needs}
+use Rattle.profile.specs.Entry.{offsetBits, mostTableCode, codeBits, mostLevels}
 use Rattle.profile.specs.Walk.{walkFrom}
 use Rattle.translation.specs.Turn.{counted}
 use Rattle.translation.specs.LoopLaws.{later}
@@ -12,7 +13,7 @@ use Rattle.translation.proofs.walk.walk.Tie as tie
 
 abbrev Inv-loop : tie.InvT-loop
 Inv-loop memory page bits base₀ below₀ words₀ base below words =
-    (below + words ≤ 5) × (bits ≤ 39) × (bits * below ≤ 59) ×
+    (below + words ≤ mostLevels) × (bits ≤ mostTableCode + codeBits) × (bits * below ≤ offsetBits) ×
     (counted (walkFrom memory below₀ bits base₀ page) ≡ later words (counted (walkFrom memory below bits base page)))
 
 abbrev μ-loop : tie.MeasureT-loop
