@@ -1,11 +1,9 @@
 // Replays standard input to standard output.
-use input_end;
-use input_end::Finished;
-use line_end::Progress;
-use replay;
-use replay::Fed;
-use report;
-use report::Written;
+use replay_feed;
+use replay_feed::Fed;
+use replay_session::Progress;
+use text_report;
+use text_report::Written;
 
 // The pieces that are read at most, of 4,096 bytes at most each.
 const MOST_PIECES: u64 = 1000000000000;
@@ -25,8 +23,8 @@ fn flush(out: &[u8], end: usize) -> bool {
     false
 }
 
-fn write_header(out: &mut [u8; 356352]) -> bool {
-    match report::write_header(out, 0) {
+fn start_output(out: &mut [u8; 356352]) -> bool {
+    match text_report::write_header(out, 0) {
         Written::To(end) => flush(out, end),
         Written::NoRoom => false,
     }
@@ -53,7 +51,7 @@ fn piece(
     if n == 0 {
         return Turn::Ended;
     }
-    match replay::feed(
+    match replay_feed::feed(
         progress,
         requesters,
         entries,
@@ -96,10 +94,10 @@ fn last(
     windows: &mut [u64; 67],
     segments: &mut [u16; 256],
     state: &mut [u64; 48],
-    line: &[u8; 128],
+    line: &mut [u8; 128],
     out: &mut [u8; 356352],
 ) {
-    match input_end::finish(
+    match replay_feed::finish(
         progress,
         requesters,
         entries,
@@ -113,11 +111,14 @@ fn last(
         out,
         0,
     ) {
-        Finished::To { progress: _, at } => {
+        Fed::To {
+            progress: _,
+            bytes: _,
+            at,
+        } => {
             flush(out, at);
         }
-        Finished::NoRoom { progress: _ } => {}
-        Finished::Unfit => {}
+        Fed::Unfit => {}
     }
 }
 
@@ -132,10 +133,10 @@ fn main() {
     let mut state = [0u64; 48];
     let mut line = [0u8; 128];
     let mut out = [0u8; 356352];
-    let mut progress = replay::start();
+    let mut progress = replay_feed::start();
     let mut ended = false;
     let mut pieces = 0;
-    if write_header(&mut out) {
+    if start_output(&mut out) {
         pieces = MOST_PIECES;
     }
     while 0 < pieces {
@@ -176,7 +177,7 @@ fn main() {
             &mut windows,
             &mut segments,
             &mut state,
-            &line,
+            &mut line,
             &mut out,
         );
     }

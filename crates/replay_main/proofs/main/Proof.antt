@@ -15,8 +15,8 @@ abbrev μ-loop : tie.MeasureT-loop
 start-requires : tie.Need-start-requires Inv-loop μ-loop
 start-requires c κs = search needs
 
-write-header-requires : tie.Need-write-header-requires Inv-loop μ-loop
-write-header-requires c κs = search needs
+start-output-requires : tie.Need-start-output-requires Inv-loop μ-loop
+start-output-requires c κs = search needs
 
 loop-holds : tie.Need-loop-holds Inv-loop μ-loop
 loop-holds c = search needs
@@ -70,7 +70,7 @@ main-spec =
     Inv-loop
     μ-loop
     start-requires
-    write-header-requires
+    start-output-requires
     loop-holds
     piece-requires
     enum-known-next

@@ -1,5 +1,0 @@
-pub mod Bytes
-pub mod Field
-pub mod FieldLaws
-pub mod Place
-pub mod PlaceLaws

@@ -1,3 +1,0 @@
-pub mod SetLaws
-pub mod SizeLaws
-pub mod TableLaws

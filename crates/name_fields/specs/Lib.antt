@@ -1,3 +1,0 @@
-pub mod NamePlace
-pub mod NamePlaceLaws
-pub mod ReadLaws

@@ -1,2 +1,0 @@
-pub mod NumberPlace
-pub mod NumberPlaceLaws

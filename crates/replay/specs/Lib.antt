@@ -1,2 +1,0 @@
-pub mod FeedLaws
-pub mod Promise

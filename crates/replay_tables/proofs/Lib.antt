@@ -1,0 +1,4 @@
+pub mod SetLaws
+pub mod SizeLaws
+pub mod TableLaws
+pub mod UsedLaws

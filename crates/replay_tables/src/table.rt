@@ -1,0 +1,60 @@
+// One lent table: a word of the part in use set, all of it cleared.
+use crate::bad;
+use crate::used;
+use replay_text::Reply;
+ghost use mathlib.Core.Path.{_≡_};
+ghost use mathlib.Core.Bool.{true};
+ghost use Prim.Native.Nat.{_*_, _^_};
+ghost use lib.Dec.{ltb};
+ghost use lib.ListN.{length, replicate};
+ghost use Rattle.replay_tables.specs.Promise.{SetPart};
+
+// A word of 16 bits is below it.
+const SHORT_LIMIT: u64 = 65536;
+
+// Sets word `index` of the part in use, the first `count` times `each` words; a word that is not there is a bad line, and nothing is written.
+pub(crate) fn set_word(table: &mut [u64], count: u64, each: u64, index: u64, value: u64) -> Reply
+    ensures { λ r. ⌜ SetPart (count * each) (now (table .entry)) index value true r (now (table .exit)) ⌝ }
+{
+    let end = used(count, each, table.len());
+    if index < end as u64 {
+        table[index as usize] = value;
+        return Reply::Silent;
+    }
+    Reply::Says(bad())
+}
+
+// The same of a table of 16 bits a word: a wider value is a bad line too.
+pub(crate) fn set_short(table: &mut [u16], count: u64, each: u64, index: u64, value: u64) -> Reply
+    ensures { λ r. ⌜ SetPart (count * each) (now (table .entry)) index value (ltb value (2 ^ 16)) r (now (table .exit)) ⌝ }
+{
+    let end = used(count, each, table.len());
+    if index < end as u64 {
+        if value < SHORT_LIMIT {
+            table[index as usize] = value as u16;
+            return Reply::Silent;
+        }
+        return Reply::Says(bad());
+    }
+    Reply::Says(bad())
+}
+
+pub(crate) fn clear(table: &mut [u64])
+    ensures { λ _. ⌜ now (table .exit) ≡ replicate (length (now (table .entry))) 0 ⌝ }
+{
+    let mut i = 0;
+    while i < table.len() {
+        table[i] = 0;
+        i += 1;
+    }
+}
+
+pub(crate) fn clear_short(table: &mut [u16])
+    ensures { λ _. ⌜ now (table .exit) ≡ replicate (length (now (table .entry))) 0 ⌝ }
+{
+    let mut i = 0;
+    while i < table.len() {
+        table[i] = 0;
+        i += 1;
+    }
+}

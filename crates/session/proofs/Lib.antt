@@ -1,3 +1,0 @@
-pub mod LineLaws
-pub mod PartLaws
-pub mod RequestLaws

@@ -1,1 +1,0 @@
-// A replay as a stream of bytes: the definitions of its output, whatever the pieces of its input.

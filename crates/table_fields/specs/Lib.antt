@@ -1,2 +1,0 @@
-pub mod TablePlace
-pub mod TablePlaceLaws

@@ -1,0 +1,4 @@
+pub mod ByteLaws
+pub mod NameInLaws
+pub mod NumberInLaws
+pub mod ReadInLaws

@@ -1,0 +1,4 @@
+pub mod Place
+pub mod PlaceLaws
+pub mod ReadLaws
+pub mod Reading

@@ -1,0 +1,3 @@
+pub mod DigitLaws
+pub mod LetterLaws
+pub mod WriteLaws
