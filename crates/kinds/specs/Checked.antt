@@ -26,6 +26,6 @@ abbrev pub noDma : DmaRequest
 noDma = record { requester = 0; direction = Read; address = record { 0 = 0 }; length = 0; «data» = 0 }
 
 unfoldable pub shown : Checked → Check
-shown (Kept a) = record { walks = false; pe = record { 0 = 0 }; outcome = kept a; entry = noEntry; dma = noDma }
-shown (Ready p o) = record { walks = false; pe = p; outcome = o; entry = noEntry; dma = noDma }
-shown (Walk p e q) = record { walks = true; pe = p; outcome = done Keep; entry = e; dma = q }
+shown (Kept a) = record { walks = false; kept = true; pe = record { 0 = 0 }; outcome = kept a; entry = noEntry; dma = noDma }
+shown (Ready p o) = record { walks = false; kept = false; pe = p; outcome = o; entry = noEntry; dma = noDma }
+shown (Walk p e q) = record { walks = true; kept = false; pe = p; outcome = done Keep; entry = e; dma = q }

@@ -35,10 +35,11 @@ pub struct Outcome {
     pub effect: Effect,
 }
 
-// What is known of a request before memory is read: its outcome, whose effect is done at `pe`, or that the page table of `entry` of `pe` is walked for
-// `dma`. What is not known then is empty; a request of nobody has no effect, and PE 0 stands for it.
+// What is known of a request before memory is read: that it is answered and nothing is done (`kept`); its outcome, whose effect is done at `pe`; or that the page
+// table of `entry` of `pe` is walked for `dma` (`walks`). What is not known then is empty.
 pub struct Check {
     pub walks: bool,
+    pub kept: bool,
     pub pe: PeNumber,
     pub outcome: Outcome,
     pub entry: TranslationEntry,

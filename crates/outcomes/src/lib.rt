@@ -81,6 +81,7 @@ pub fn kept(answer: Answer) -> Check
 {
     Check {
         walks: false,
+        kept: true,
         pe: PeNumber(0),
         outcome: Outcome {
             answer,
@@ -97,6 +98,7 @@ pub fn ready(pe: PeNumber, outcome: Outcome) -> Check
 {
     Check {
         walks: false,
+        kept: false,
         pe,
         outcome,
         entry: NO_ENTRY,
@@ -110,6 +112,7 @@ pub fn walk(pe: PeNumber, entry: TranslationEntry, dma: DmaRequest) -> Check
 {
     Check {
         walks: true,
+        kept: false,
         pe,
         outcome: Outcome {
             answer: Answer::Done,

@@ -82,6 +82,7 @@ lentCases =
     ∷ leaves (Set Interrupts 4 1) tables
     ∷ leaves (Set Windows 67 1) tables
     ∷ leaves (Set Segments 256 1) tables
+    ∷ leaves (Set Segments 255 65536) tables
     ∷ leaves (Set State 2 8) (lists (0 ∷ 90 ∷ []) (5 ∷ 6 ∷ 92 ∷ []) quiet (0 ∷ 0 ∷ 8 ∷ 97 ∷ []))
     ∷ leaves (Set State 3 8) tables
     ∷ leaves (Request (Error 0)) (lists (0 ∷ 90 ∷ []) (5 ∷ 6 ∷ 92 ∷ []) quiet (3 ∷ 12 ∷ 0 ∷ 97 ∷ []))

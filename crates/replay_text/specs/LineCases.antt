@@ -47,6 +47,7 @@ stores =
     ∷ ("set\twindows\t0\t100000000", Set Windows 0 0x1_0000_0000)
     ∷ ("set\tsegments\tff\t10000", Set Segments 0xff 0x10000)
     ∷ ("set\tstate\t0\t3", Set State 0 3)
+    ∷ ("set\tmemory\t123\t456789abcdef0", Set Memory 0x123 0x4_5678_9abc_def0)
     ∷ ("set\tentries\t0\t0", Bad)
     ∷ ("set\tState\t0\t0", Bad)
     ∷ ("set\tstate\t0", Bad)

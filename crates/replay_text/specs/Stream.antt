@@ -6,7 +6,7 @@
 --     ended s             the stream after the end of its line; ending s: what that writes
 --     fed s b             the stream after byte b; said s b: what that writes
 --     fedAll, saidAll     of a list of bytes
---     closing s           what the end of the input writes; closed s: the stream after it
+--     closing s           what the end of the input writes
 --     begin               before the first byte
 -- Assumes nothing.
 use mathlib.Core.Bool.{cond}
@@ -66,9 +66,6 @@ saidAll s (b ∷ l) = said s b ++ saidAll (fed s b) l
 
 unfoldable pub closing : Stream → List ℕ
 closing s = cond (eqb (length (s .pending)) 0) [] (ending s)
-
-unfoldable pub closed : Stream → Stream
-closed s = cond (eqb (length (s .pending)) 0) s (ended s)
 
 abbrev pub begin : Stream
 begin = record { pending = []; count = 0; session = start }

@@ -1,10 +1,11 @@
 -- What the functions of `step` are proved from. Assumes nothing.
-use mathlib.Core.Path.{_≡_, refl, ap, _∙_}
+use mathlib.Core.Path.{_≡_, refl, sym, ap, _∙_}
 use mathlib.Core.Bool.{Bool, true}
 use mathlib.Core.List.{List}
 use Prim.Native.Nat.{ℕ}
 use lib.ListN.{length}
 use Rattle.kinds.specs.Answer.{numbered}
+use Rattle.kinds.specs.Tests.{clash}
 use Rattle.kinds.specs.Checked.{Checked, Kept, Ready, Walk, shown}
 use Rattle.kinds.specs.declared.lookup.Owner.{Owner}
 use Rattle.kinds.specs.declared.lookup.Owner.the-variants.{Of, Nobody}
@@ -60,21 +61,58 @@ placed f m (Nobody r) (Kept a) s h = refl
 placed f m o (Ready p x) s h = rw h
 placed f m o (Walk p r q) s h = rw h
 
+-- a request that is answered: nothing is done
+kept-out : (m : List ℕ) (x : Checked) → shown x .kept ≡ true → finish m x ≡ shown x .outcome
+unfolding shown finish
+kept-out m (Kept a) h = refl
+kept-out m (Ready p o) h = refl
+kept-out m (Walk p r q) h = clash h refl
+
+kept-still : (x : Checked) → shown x .kept ≡ true → shown x .outcome .effect ≡ Keep
+unfolding shown
+kept-still (Kept a) h = refl
+kept-still (Ready p o) h = clash h refl
+kept-still (Walk p r q) h = clash h refl
+
+still : (f : Tables) (o : Owner) (s : Live) → actBy f o Keep s ≡ s
+unfolding actBy act
+still f (Of p) s = refl
+still f (Nobody r) s = refl
+
 -- `handle`
-module _ (f : Tables) (m : List ℕ) (s : Live) (q : Request) {k : Lengths} {c : Check} {o : Outcome} (measured : k ≡ lengths f (length m) s)
-    (checks : c ≡ shown (checked (f .sizes) (f .requesters) (f .entries) (f .windows) (f .segments) s (sized (f .sizes) k) q)) (ends : o ≡ finished m c) where
-  said : o ≡ decided f m s q
-  said = decided-is f m s q measured checks ends
+module _ (f : Tables) (m : List ℕ) (s : Live) (q : Request) {k : Lengths} {c : Check} (measured : k ≡ lengths f (length m) s)
+    (checks : c ≡ shown (checked (f .sizes) (f .requesters) (f .entries) (f .windows) (f .segments) s (sized (f .sizes) k) q)) where
+  abbrev x : Checked
+  x = checkedOn f (length m) s q
 
-  at-owner : act (f .sizes .pes) (f .peers) (c .pe) (o .effect) s ≡ after f m s q
-  at-owner =
-      rw (said, checked-is f m s q measured checks) (placed f m (owner f s q) (checkedOn f (length m) s q) s
-      (checked-owner (f .sizes) (f .requesters) (f .entries) (f .windows) (f .segments) s (sized (f .sizes) (lengths f (length m) s)) q))
+  is : c ≡ shown x
+  is = checked-is f m s q measured checks
 
-  pub handled : {t : Live} → t ≡ act (f .sizes .pes) (f .peers) (c .pe) (o .effect) s → Handled f m s q (o .answer) t
-  handled acts = record {
-    answers = ap (λ (u : Outcome). u .answer) said;
-    numbers = ap (λ (u : Outcome). numbered (u .answer)) said;
-    leaves = acts ∙ at-owner;
-    isolation = isolation;
-  }
+  pub handled-kept : c .kept ≡ true → Handled f m s q (c .outcome .answer) s
+  handled-kept h =
+      let kept-is : shown x .kept ≡ true = rw is at h in
+      let said : c .outcome ≡ decided f m s q = ap (λ (u : Check). u .outcome) is ∙ sym (kept-out m x kept-is) in
+      let quiet : decided f m s q .effect ≡ Keep = rw (kept-out m x kept-is) (kept-still x kept-is) in
+      record {
+        answers = ap (λ (u : Outcome). u .answer) said;
+        numbers = ap (λ (u : Outcome). numbered (u .answer)) said;
+        leaves = sym (rw quiet (still f (owner f s q) s));
+        isolation = isolation;
+      }
+
+  module _ {o : Outcome} (ends : o ≡ finished m c) where
+    said : o ≡ decided f m s q
+    said = decided-is f m s q measured checks ends
+
+    at-owner : act (f .sizes .pes) (f .peers) (c .pe) (o .effect) s ≡ after f m s q
+    at-owner =
+        rw (said, is) (placed f m (owner f s q) x s
+        (checked-owner (f .sizes) (f .requesters) (f .entries) (f .windows) (f .segments) s (sized (f .sizes) (lengths f (length m) s)) q))
+
+    pub handled : {t : Live} → t ≡ act (f .sizes .pes) (f .peers) (c .pe) (o .effect) s → Handled f m s q (o .answer) t
+    handled acts = record {
+      answers = ap (λ (u : Outcome). u .answer) said;
+      numbers = ap (λ (u : Outcome). numbered (u .answer)) said;
+      leaves = acts ∙ at-owner;
+      isolation = isolation;
+    }

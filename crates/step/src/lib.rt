@@ -6,10 +6,10 @@ use interrupts;
 use kinds::answer::Answer;
 use kinds::number::PeNumber;
 use kinds::outcome::Effect;
-use kinds::record::Lengths;
 use kinds::record::Sizes;
 use kinds::request::Request;
 use peers;
+use sizes;
 ghost use mathlib.Core.Path.{_≡_};
 ghost use Rattle.profile.specs.Freeze.{taken};
 ghost use Rattle.profile.specs.Step.{act};
@@ -79,17 +79,16 @@ pub fn handle(
 ) -> Answer
     ensures { λ r. ⌜ Handled (tables sizes (now (requesters .entry)) (now (entries .entry)) (now (peers .entry)) (now (windows .entry)) (now (segments .entry))) (now (memory .entry)) (live (now (state .entry)) (now (interrupts .entry))) request r (live (now (state .exit)) (now (interrupts .exit))) ⌝ }
 {
-    // not by `sizes::lengths_of`: the call would take a tenth of the time of a request that is refused early
-    let lengths = Lengths {
-        requesters: requesters.len() as u64,
-        entries: entries.len() as u64,
-        memory: memory.len() as u64,
-        peers: peers.len() as u64,
-        interrupts: interrupts.len() as u64,
-        windows: windows.len() as u64,
-        segments: segments.len() as u64,
-        state: state.len() as u64,
-    };
+    let lengths = sizes::lengths_of(
+        requesters,
+        entries,
+        memory,
+        peers,
+        interrupts,
+        windows,
+        segments,
+        state,
+    );
     let checked = decide::check(
         sizes,
         lengths,
@@ -101,6 +100,10 @@ pub fn handle(
         state,
         request,
     );
+    if checked.kept {
+        let known = checked.outcome;
+        return known.answer;
+    }
     let outcome = decide::finish(memory, checked);
     let effect = outcome.effect;
     act_at(sizes.pes, peers, interrupts, state, checked.pe, effect);

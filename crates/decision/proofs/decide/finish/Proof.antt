@@ -11,7 +11,7 @@ returns : tie.Need-returns
 returns c = search laws.finish-walk
 
 returns-2 : tie.Need-returns-2
-returns-2 c = search needs
+returns-2 c = search laws.finish-known
 
 pub finish-spec : {M : Type 1} → statement M
 finish-spec = tie.close (tie.spec finish-walk-requires returns returns-2)
