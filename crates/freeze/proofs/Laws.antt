@@ -8,6 +8,7 @@ use lib.ListN.{length, set, take, drop}
 use lib.Seq.{length-take-le}
 use borrow.Author.Tests.{lt-ltb, le-ltb, eq-eqb, ne-eqb}
 use Rattle.kinds.specs.Answer.{reasonNumber}
+use Rattle.kinds.specs.Tests.{and-false}
 use Rattle.kinds.specs.Turns.{turns}
 use Rattle.kinds.specs.TurnsLaws.{turns-next}
 use Rattle.kinds.specs.Words.{at, bitOf}
@@ -16,8 +17,8 @@ use Rattle.kinds.specs.declared.number.PeNumber.{PeNumber}
 use Rattle.kinds.specs.declared.outcome.ErrorRecord.{ErrorRecord}
 use Rattle.profile.specs.Freeze.{froze}
 use Rattle.profile.specs.Tables.{stateWords}
-use Rattle.freeze.specs.Turn.{stopped, turned, freezeTurn, endOf, frozeAll}
-use Rattle.freeze.specs.TurnLaws.{length-turned, turns-is, end-within, part-is}
+use Rattle.freeze.specs.Turn.{stopped, peersStopped, turned, peerTurn, endOf, frozeAll}
+use Rattle.freeze.specs.TurnLaws.{length-turned, turns-is, both-is, end-within, part-is}
 
 -- b and o are the stop word and the reason that were read
 module _ (l : List ℕ) (k r v : ℕ) {b o : ℕ} {m : List ℕ} (stop : b ≡ at l (k * stateWords)) (reason : o ≡ at l (k * stateWords + 1)) (bits : m ≡ set l (k * stateWords) (b / 4 * 4 + 3)) where
@@ -29,18 +30,18 @@ module _ (l : List ℕ) (k r v : ℕ) {b o : ℕ} {m : List ℕ} (stop : b ≡ a
   unfolding stopped
   stopped-full e = rw (← reason, ne-eqb o 0 e, ← stop) bits
 
-module _ (b : Bool) (p : PeNumber) (r v : ℕ) (l : List ℕ) (k : ℕ) where
-  pub turned-failing : {x : List ℕ} → k ≡ p .0 → x ≡ stopped r v l k → x ≡ turned b p r v l k
+module _ (b : Bool) (p : PeNumber) (l : List ℕ) (k : ℕ) where
+  pub turned-peer : {n : ℕ} {x : List ℕ} → b ≡ true → (k ≡ p .0 → ⊥) → n ≡ reasonNumber FrozenAsPeer → x ≡ stopped n (p .0) l k → x ≡ turned b p l k
   unfolding turned
-  turned-failing e h = rw (eq-eqb k (p .0) e) h
+  turned-peer y e f h = rw (ne-eqb k (p .0) e, y, ← f) h
 
-  pub turned-peer : {n : ℕ} {x : List ℕ} → (k ≡ p .0 → ⊥) → b ≡ true → n ≡ reasonNumber FrozenAsPeer → x ≡ stopped n (p .0) l k → x ≡ turned b p r v l k
+  pub turned-failing : k ≡ p .0 → l ≡ turned b p l k
   unfolding turned
-  turned-peer e y f h = rw (ne-eqb k (p .0) e, y, ← f) h
+  turned-failing e = rw (eq-eqb k (p .0) e, and-false)
 
-  pub turned-other : (k ≡ p .0 → ⊥) → b ≡ false → l ≡ turned b p r v l k
+  pub turned-other : b ≡ false → l ≡ turned b p l k
   unfolding turned
-  turned-other e y = rw (ne-eqb k (p .0) e, y)
+  turned-other y = rw y
 
 -- `end_of`
 pub end-pes : (n b : ℕ) → b < n / stateWords + 1 → b * stateWords ≡ endOf n b
@@ -63,13 +64,18 @@ module _ (l : List ℕ) (b : ℕ) {n : ℕ} (end : n ≡ endOf (length l) b) whe
   part-froze v p e h = rw (h, end) (part-is l b v p e)
 
 -- `freeze_all`
-module _ (v : List ℕ) (p : PeNumber) (e : ErrorRecord) (l : List ℕ) {m : List ℕ} (k : ℕ) (same : m ≡ turns (freezeTurn v p e) l k) where
-  module _ {b : Bool} {r : ℕ} {x : List ℕ} (asked : b ≡ bitOf v k) (number : r ≡ reasonNumber (e .reason)) (h : x ≡ turned b p r (e .value) m k) where
-    pub turn-next : x ≡ turns (freezeTurn v p e) l (k + 1)
-    turn-next = turns-next (freezeTurn v p e) l k same (rw (← asked, ← number) h)
+pub froze-both : (v : List ℕ) (p : PeNumber) (e : ErrorRecord) (l : List ℕ) {n : ℕ} {m x : List ℕ} → n ≡ reasonNumber (e .reason)
+    → m ≡ stopped n (e .value) l (p .0) → x ≡ peersStopped v p m → x ≡ frozeAll v p e l
+froze-both v p e l f g h = h ∙ rw (g, f) (both-is v p e l)
+
+-- `stop_peers`
+module _ (v : List ℕ) (p : PeNumber) (l : List ℕ) {m : List ℕ} (k : ℕ) (same : m ≡ turns (peerTurn v p) l k) where
+  module _ {b : Bool} {x : List ℕ} (asked : b ≡ bitOf v k) (h : x ≡ turned b p m k) where
+    pub turn-next : x ≡ turns (peerTurn v p) l (k + 1)
+    turn-next = turns-next (peerTurn v p) l k same (rw (← asked) h)
 
     pub turn-length : length m ≡ length l → length x ≡ length l
-    turn-length g = ap length (rw (asked, number) at h) ∙ length-turned v p e m k ∙ g
+    turn-length g = ap length (rw asked at h) ∙ length-turned v p m k ∙ g
 
-  pub turn-last : length m ≡ length l → length m ≤ k * stateWords → m ≡ frozeAll v p e l
-  turn-last g h = same ∙ turns-is v p e l k (rw (← g) h)
+    pub turn-last : length m ≡ length l → length m ≤ k * stateWords + 2 → x ≡ peersStopped v p l
+    turn-last g f = turn-next ∙ turns-is v p l (k + 1) (omega (arith, g, f))

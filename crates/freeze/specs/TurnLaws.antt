@@ -1,12 +1,13 @@
--- The turns of a freeze, word by word.
+-- A freeze as the code takes it is the freeze.
 --     length-stopped, length-turned   the state keeps its length
 --     at-stopped          the words of a PE that is stopped are marked, and no others
---     at-turned           a turn freezes the words of its PE, and no others
---     turns-is            turns for all words are the freeze of a state of PEs below N
+--     at-turned           a turn marks the words of its PE, and no others
+--     turns-is            turns for all words stop the peers
+--     both-is             the failing PE stopped, and then its peers: the freeze of a state of PEs below N
 --     end-within, part-is the freeze of the words of the PEs below N is the freeze
 -- Assumes nothing.
 use mathlib.Core.Path.{_≡_, refl, sym, _∙_}
-use mathlib.Core.Bool.{Bool, true, false, cond, _&&_}
+use mathlib.Core.Bool.{Bool, true, false, cond, not, _&&_}
 use mathlib.Core.List.{List, _++_}
 use Prim.Native.Nat.{ℕ, _+_, _*_, _/_, _%_, _<_, _≤_}
 use native.Mathlib.Omega.{arith}
@@ -15,7 +16,7 @@ use lib.ListN.{length, take, drop, length-set}
 use lib.Seq.{ext-getD, getD-take, take-length, length-take-le, length-front}
 use borrow.Author.Tests.{lt-ltb, le-ltb, ltb-true, ltb-false, eqb-true, eqb-false}
 use Rattle.kinds.specs.Answer.{reasonNumber}
-use Rattle.kinds.specs.Tests.{by-cases, and-left}
+use Rattle.kinds.specs.Tests.{by-cases, and-left, and-true, and-false}
 use Rattle.kinds.specs.Turns.{turns}
 use Rattle.kinds.specs.TurnsLaws.{at-place, at-first, turns-mapAt}
 use Rattle.kinds.specs.Words.{at, bitOf}
@@ -24,7 +25,7 @@ use Rattle.kinds.specs.declared.number.PeNumber.{PeNumber}
 use Rattle.kinds.specs.declared.outcome.ErrorRecord.{ErrorRecord}
 use Rattle.profile.specs.Freeze.{asPeer, marked, frozen, ofPes, froze}
 use Rattle.profile.specs.Tables.{stateWords}
-use Rattle.freeze.specs.Turn.{stopped, turned, freezeTurn, endOf, frozeAll}
+use Rattle.freeze.specs.Turn.{stopped, asPeerOf, peersStopped, turned, peerTurn, endOf, frozeAll}
 
 -- a word of one state or of another
 at-either : (b : Bool) (l m : List ℕ) (i : ℕ) → at (cond b l m) i ≡ cond b (at l i) (at m i)
@@ -67,27 +68,61 @@ module _ (l : List ℕ) (k : ℕ) where
         (word-cases i (λ g z d. rw (g, z, d)) (λ g z. rw (g, z)) (λ g z. rw (g, z)) (λ g. rw g))))
         (λ o. rw o (simp (at-first stateWords (omega arith)) (word-cases i (λ g z d. rw (g, z, d)) (λ g z. rw (g, z)) (λ g z. rw (g, z)) (λ g. rw g))))
 
-module _ (v : List ℕ) (p : PeNumber) (e : ErrorRecord) where
-  pub length-turned : (l : List ℕ) (k : ℕ) → length (freezeTurn v p e l k) ≡ length l
-  unfolding turned
-  length-turned l k =
-      by-cases (eqb k (p .0)) (λ o. rw o (length-stopped l k e))
-      (λ o. rw o (by-cases (bitOf v k) (λ q. rw q (length-stopped l k (asPeer p))) (λ q. rw q)))
+module _ (v : List ℕ) (p : PeNumber) where
+  abbrev other : ℕ → Bool
+  other k = bitOf v k && not (eqb k (p .0))
 
-  at-turned : (l : List ℕ) (k i : ℕ) → at (freezeTurn v p e l k) i ≡ cond (owned l k i) (frozen v p e l i (at l i)) (at l i)
-  unfolding turned frozen
+  pub length-turned : (l : List ℕ) (k : ℕ) → length (peerTurn v p l k) ≡ length l
+  unfolding turned
+  length-turned l k = by-cases (other k) (λ o. rw o (length-stopped l k (asPeer p))) (λ o. rw o)
+
+  at-turned : (l : List ℕ) (k i : ℕ) → at (peerTurn v p l k) i ≡ cond (owned l k i) (asPeerOf v p l i (at l i)) (at l i)
+  unfolding turned asPeerOf
   at-turned l k i =
-      rw (at-either (eqb k (p .0)), at-either (bitOf v k), at-stopped l k e i, at-stopped l k (asPeer p) i)
+      rw (at-either (other k), at-stopped l k (asPeer p) i)
       (by-cases (owned l k i)
       (λ g. rw (g, eqb-true (i / stateWords) k (and-left _ _ g)))
-      (λ g. rw (g, either-same, either-same)))
+      (λ g. rw (g, either-same)))
 
+  turn-reads : (l m : List ℕ) (i x : ℕ) → ((j : ℕ) → j / stateWords ≡ i / stateWords → at l j ≡ at m j) → asPeerOf v p l i x ≡ asPeerOf v p m i x
+  unfolding asPeerOf
+  turn-reads l m i x h = rw (h (i / stateWords * stateWords + 1) (omega arith))
+
+  pub turns-is : (l : List ℕ) (n : ℕ) → length l ≤ n * stateWords → turns (peerTurn v p) l n ≡ peersStopped v p l
+  turns-is l n h = turns-mapAt stateWords (omega arith) (asPeerOf v p) (peerTurn v p) length-turned turn-reads at-turned l n h
+
+-- the failing PE, then its peers
+module _ (v : List ℕ) (p : PeNumber) (e : ErrorRecord) where
   frozen-reads : (l m : List ℕ) (i x : ℕ) → ((j : ℕ) → j / stateWords ≡ i / stateWords → at l j ≡ at m j) → frozen v p e l i x ≡ frozen v p e m i x
   unfolding frozen
   frozen-reads l m i x h = rw (h (i / stateWords * stateWords + 1) (omega arith))
 
-  pub turns-is : (l : List ℕ) (n : ℕ) → length l ≤ n * stateWords → turns (freezeTurn v p e) l n ≡ frozeAll v p e l
-  turns-is l n h = turns-mapAt stateWords (omega arith) (frozen v p e) (freezeTurn v p e) length-turned frozen-reads at-turned l n h
+  module _ (l : List ℕ) where
+    abbrev first : List ℕ
+    first = stopped (reasonNumber (e .reason)) (e .value) l (p .0)
+
+    -- the record of a word's PE is that PE's
+    row-of : (i : ℕ) → (i / stateWords * stateWords + 1) / stateWords ≡ i / stateWords
+    row-of i = omega arith
+
+    -- the words of another PE stay
+    first-other : (i : ℕ) → eqb (i / stateWords) (p .0) ≡ false → at first i ≡ at l i
+    first-other i h = at-stopped l (p .0) e i ∙ rw h
+
+    both-at : (i : ℕ) → i < length l → asPeerOf v p first i (at first i) ≡ frozen v p e l i (at l i)
+    unfolding asPeerOf frozen
+    both-at i h =
+        by-cases (eqb (i / stateWords) (p .0))
+        (λ o. rw (o, and-false) (at-stopped l (p .0) e i ∙ rw (o, lt-ltb i (length l) h, eqb-true (i / stateWords) (p .0) o)))
+        (λ o. rw (o, and-true, first-other i o, first-other (i / stateWords * stateWords + 1) (rw (row-of i) o)))
+
+    pub both-is : peersStopped v p first ≡ frozeAll v p e l
+    both-is =
+        let same : length first ≡ length l = length-stopped l (p .0) e in
+        let long = length-mapAt (asPeerOf v p first) 0 first ∙ same in
+        ext-getD 0 (peersStopped v p first) (frozeAll v p e l) (long ∙ sym (length-mapAt (frozen v p e l) 0 l))
+        (λ i h. let g : i < length l = rw long at h in
+        rw (at-mapAt, at-mapAt, same, lt-ltb i (length l) g) (both-at i g))
 
 -- ---- the words of the PEs below b
 

@@ -8,11 +8,11 @@ use peers::is_listed;
 use words::put;
 use words::word;
 ghost use mathlib.Core.Path.{_≡_};
-ghost use Prim.Native.Nat.{_*_, _<_};
+ghost use Prim.Native.Nat.{_+_, _*_, _^_, _<_};
 ghost use lib.ListN.{length};
 ghost use Rattle.profile.specs.Freeze.{froze};
 ghost use Rattle.profile.specs.Tables.{stateWords};
-ghost use Rattle.freeze.specs.Turn.{stopped, turned, endOf, frozeAll};
+ghost use Rattle.freeze.specs.Turn.{stopped, turned, peersStopped, endOf, frozeAll};
 
 // PE `pe` and every PE below N in its peer vector are stopped, as one step.
 pub fn freeze(state: &mut [u64], pes: u64, peers: [u64; 4], pe: PeNumber, error: ErrorRecord)
@@ -33,39 +33,47 @@ fn end_of(words: usize, pes: u64) -> usize
     words
 }
 
-// The freeze where every word is that of a PE below N.
+// The freeze where every word is that of a PE below N: the failing PE, then its peers.
 fn freeze_all(state: &mut [u64], peers: [u64; 4], pe: PeNumber, error: ErrorRecord)
     ensures { λ _. ⌜ now (state .exit) ≡ frozeAll peers pe error (now (state .entry)) ⌝ }
 {
     let reason = error.reason;
     let number = reason_number(reason);
-    let mut k: usize = 0;
-    while k * STATE_WORDS < state.len() {
-        let peer = is_listed(&peers, k);
-        turn(state, k, peer, pe, number, error.value);
-        k += 1;
-    }
+    stop(state, pe.0 as usize, number, error.value);
+    stop_peers(state, peers, pe);
 }
 
-// The turn of PE k in a freeze of PE `pe`; `peer` says whether k is in the vector.
-fn turn(state: &mut [u64], k: usize, peer: bool, pe: PeNumber, reason: u64, value: u64)
-    requires { ⌜ k * stateWords < length (now state) ⌝ }
-    ensures { λ _. ⌜ now (state .exit) ≡ turned peer pe reason value (now (state .entry)) k ⌝ }
+// Every PE in the vector is stopped as a peer of PE `pe`. The last turn is for words that are not all those of a PE.
+fn stop_peers(state: &mut [u64], peers: [u64; 4], pe: PeNumber)
+    ensures { λ _. ⌜ now (state .exit) ≡ peersStopped peers pe (now (state .entry)) ⌝ }
+{
+    let mut k: usize = 0;
+    while k * STATE_WORDS + 2 < state.len() {
+        let peer = is_listed(&peers, k);
+        turn(state, k, peer, pe);
+        k += 1;
+    }
+    let peer = is_listed(&peers, k);
+    turn(state, k, peer, pe);
+}
+
+// The turn of PE k; `peer` says whether it is in the vector. PE `pe` in its own vector counts as the failing one.
+fn turn(state: &mut [u64], k: usize, peer: bool, pe: PeNumber)
+    requires { ⌜ k * stateWords < 2 ^ 62 ⌝ }
+    ensures { λ _. ⌜ now (state .exit) ≡ turned peer pe (now (state .entry)) k ⌝ }
 {
     let failing = pe.0 as usize;
-    let as_peer = reason_number(Reason::FrozenAsPeer);
-    if k == failing {
-        stop(state, k, reason, value);
-        return;
-    }
     if peer {
-        stop(state, k, as_peer, failing as u64);
+        if k != failing {
+            let number = reason_number(Reason::FrozenAsPeer);
+            stop(state, k, number, failing as u64);
+        }
     }
 }
 
 // Both stop bits of PE k are set, the others stay, and its record is written if it is empty.
 fn stop(state: &mut [u64], k: usize, reason: u64, value: u64)
-    requires { ⌜ k * stateWords < length (now state) ⌝ }
+    requires { ⌜ k * stateWords < 2 ^ 62 ⌝ }
     ensures { λ _. ⌜ now (state .exit) ≡ stopped reason value (now (state .entry)) k ⌝ }
 {
     let first = k * STATE_WORDS;

@@ -20,7 +20,7 @@ use Rattle.kinds.specs.Tests.{by-cases, clash}
 use Rattle.replay_session.specs.EndPromise.{EndedTo}
 use Rattle.replay_session.specs.Standing.{Standing, Buffers, buffersOf, progressOf, free, lineDone, fits}
 use Rattle.replay_session.specs.declared.Ended.{Ended}
-use Rattle.replay_session.specs.SessionIsolation.{session-isolation}
+use Rattle.replay_text.specs.SessionIsolation.{session-isolation}
 use Rattle.replay_text.specs.Stream.{lineKept, before}
 use Rattle.replay_text.specs.WholeLaws.{whole}
 use Rattle.replay_feed.specs.Feed.{Buffer, kept, keptAll, bufferOf, withBuffer, byteIn, Fed, stopped, later, feedAll, endOf}

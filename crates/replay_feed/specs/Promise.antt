@@ -14,7 +14,7 @@ use lib.ListN.{length, take, drop}
 use Rattle.replay_session.specs.Standing.{Standing, Buffers, buffersOf, progressOf, standing, fits}
 use Rattle.replay_session.specs.declared.Ended.{Ended}
 use Rattle.replay_session.specs.declared.Progress.{Progress}
-use Rattle.replay_session.specs.SessionIsolation.{SessionIsolation}
+use Rattle.replay_text.specs.SessionIsolation.{SessionIsolation}
 use Rattle.replay_text.specs.Stream.{begin, before}
 use Rattle.replay_text.specs.Whole.{Whole}
 use Rattle.replay_feed.specs.Feed.{Buffer, keptAll, Fed, later, stopped, feedAll}

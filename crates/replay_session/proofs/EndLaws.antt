@@ -19,7 +19,7 @@ use Rattle.replay_text.specs.declared.Line.the-variants.{Size, Set, Request, Ba
 use Rattle.replay_text.specs.Text.{lineMost}
 use Rattle.replay_session.specs.Promise.{RanLine}
 use Rattle.replay_text.specs.Session.{replyTo}
-use Rattle.replay_session.specs.SessionIsolation.{session-isolation}
+use Rattle.replay_text.specs.SessionIsolation.{session-isolation}
 use Rattle.replay_session.specs.SessionLaws.{no-room-keeps}
 use Rattle.replay_text.specs.Replay.{textOf}
 use Rattle.replay_tables.specs.Lent.{lent, inUse, lengthsIn, roomFor, afterIn}

@@ -9,7 +9,7 @@ use mathlib.Core.Path.{_≡_}
 use mathlib.Core.Bool.{Bool, true, false, cond}
 use Prim.Native.Nat.{ℕ, _+_}
 use lib.ListN.{length}
-use Rattle.replay_session.specs.SessionIsolation.{SessionIsolation}
+use Rattle.replay_text.specs.SessionIsolation.{SessionIsolation}
 use Rattle.replay_text.specs.Replay.{textOf, countAfter}
 use Rattle.replay_tables.specs.Lent.{lengthsIn, roomFor}
 use Rattle.replay_tables.specs.declared.Replied.{Replied}

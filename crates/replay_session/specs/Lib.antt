@@ -1,6 +1,5 @@
 pub mod EndPromise
 pub mod Promise
-pub mod SessionIsolation
 pub mod SessionLaws
 pub mod Standing
 pub mod StandingLaws

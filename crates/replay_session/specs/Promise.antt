@@ -20,7 +20,7 @@ use Rattle.replay_tables.specs.Lent.{Lent, inUse, lengthsIn, roomFor, front, se
 use Rattle.replay_text.specs.declared.Reply.{Reply}
 use Rattle.replay_text.specs.declared.Reply.the-variants.{Says, NoRoom}
 use Rattle.replay_text.specs.Session.{replyTo}
-use Rattle.replay_session.specs.SessionIsolation.{SessionIsolation}
+use Rattle.replay_text.specs.SessionIsolation.{SessionIsolation}
 
 abbrev pub replyIn : Lent → Line → Reply
 replyIn b l = cond (roomFor l (lengthsIn b)) (replyTo (inUse b) l) NoRoom

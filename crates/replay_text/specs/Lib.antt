@@ -12,7 +12,10 @@ pub mod NameLaws
 pub mod Replay
 pub mod ReplayCases
 pub mod Session
+pub mod SessionCases
+pub mod SessionIsolation
 pub mod SessionTables
+pub mod SessionWitness
 pub mod Stream
 pub mod Text
 pub mod TextCases

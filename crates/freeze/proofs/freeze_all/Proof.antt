@@ -1,71 +1,34 @@
--- `freeze::freeze_all` meets its contract. The invariant: the state is as k turns leave it. The measure is what is left of the state.
--- Assumes nothing.
+-- `freeze::freeze_all` meets its contract. Assumes nothing.
 use Rattle.freeze.proofs.Laws as laws
 use borrow.Author.Needs.{needs}
-use mathlib.Core.Path.{_≡_, refl}
-use Prim.Native.Nat.{_+_, _-_, _*_, _≤_}
-use native.Mathlib.Omega.{arith}
-use lib.ListN.{length}
-use Rattle.kinds.specs.Turns.{turns}
-use Rattle.profile.specs.Tables.{stateWords}
-use Rattle.freeze.specs.Turn.{freezeTurn}
 use Rattle.freeze.proofs.freeze_all.Statement.{statement}
 use Rattle.freeze.proofs.freeze_all.Tie as tie
 
-abbrev Inv-loop : tie.InvT-loop
-Inv-loop state₀ pe error peers number k₀ state k =
-    (k * stateWords ≤ length state + 2) × (length state ≡ length state₀) × (state ≡ turns (freezeTurn peers pe error) state₀ k)
-
-abbrev μ-loop : tie.MeasureT-loop
-μ-loop state₀ pe error peers number k₀ state k = length state + stateWords - k * stateWords
-
-reason-number-requires : tie.Need-reason-number-requires Inv-loop μ-loop
+reason-number-requires : tie.Need-reason-number-requires
 reason-number-requires c κs = search needs
 
-loop-holds : tie.Need-loop-holds Inv-loop μ-loop
-loop-holds c = (omega arith, refl, unfold turns in refl)
+cast-stop : tie.Need-cast-stop
+cast-stop c = search needs
 
-mul-loop : tie.Need-mul-loop Inv-loop μ-loop
-mul-loop c = search needs
+stop-requires : tie.Need-stop-requires
+stop-requires c κs = search needs
 
-slice-aggregate-is-listed : tie.Need-slice-aggregate-is-listed Inv-loop μ-loop
-slice-aggregate-is-listed c = search needs
+stop-peers-requires : tie.Need-stop-peers-requires
+stop-peers-requires c κs = search needs
 
-is-listed-requires : tie.Need-is-listed-requires Inv-loop μ-loop
-is-listed-requires c κs = search needs
-
-turn-requires : tie.Need-turn-requires Inv-loop μ-loop
-turn-requires c κs = search needs
-
-add-k : tie.Need-add-k Inv-loop μ-loop
-add-k c = search needs
-
-loop-less : tie.Need-loop-less Inv-loop μ-loop
-loop-less c = search needs
-
-loop-again : tie.Need-loop-again Inv-loop μ-loop
-loop-again c = search (needs, laws.turn-length, laws.turn-next)
-
-same-length : tie.Need-same-length Inv-loop μ-loop
+same-length : tie.Need-same-length
 same-length c = search needs
 
-returns : tie.Need-returns Inv-loop μ-loop
-returns c = search laws.turn-last
+returns : tie.Need-returns
+returns c = search laws.froze-both
 
 pub freeze-all-spec : {M : Type 1} → statement M
 freeze-all-spec =
     tie.close
     (tie.spec
-    Inv-loop
-    μ-loop
     reason-number-requires
-    loop-holds
-    mul-loop
-    slice-aggregate-is-listed
-    is-listed-requires
-    turn-requires
-    add-k
-    loop-less
-    loop-again
+    cast-stop
+    stop-requires
+    stop-peers-requires
     same-length
     returns)

@@ -17,16 +17,10 @@ same-length : tie.Need-same-length
 same-length c = search needs
 
 returns : tie.Need-returns
-returns c = search laws.turned-failing
-
-stop-requires-2 : tie.Need-stop-requires-2
-stop-requires-2 c κs = search needs
-
-same-length-2 : tie.Need-same-length-2
-same-length-2 c = search needs
+returns c = search laws.turned-peer
 
 returns-2 : tie.Need-returns-2
-returns-2 c = search laws.turned-peer
+returns-2 c = search laws.turned-failing
 
 returns-3 : tie.Need-returns-3
 returns-3 c = search laws.turned-other
@@ -40,7 +34,5 @@ turn-spec =
     stop-requires
     same-length
     returns
-    stop-requires-2
-    same-length-2
     returns-2
     returns-3)

@@ -41,7 +41,10 @@ same-length-10 : tie.Need-same-length-10
 same-length-10 c = search needs
 
 returns : tie.Need-returns
-returns c = search laws.end-feed
+returns c =
+    let called = c .before .before .before .before .before .before .before .before .before .before .before .before .before .before .before .before .before .before .before .before in
+    let tested = called .before .before .before .before .before .before .before .before .before .before .before .before in
+    laws.end-feed _ (tested .if1 .taken) (called .feed .ensures)
 
 slice-aggregate-feed-2 : tie.Need-slice-aggregate-feed-2
 slice-aggregate-feed-2 c = search needs
@@ -80,7 +83,10 @@ same-length-20 : tie.Need-same-length-20
 same-length-20 c = search needs
 
 returns-2 : tie.Need-returns-2
-returns-2 c = search laws.end-none
+returns-2 c =
+    let called = c .before .before .before .before .before .before .before .before .before .before .before .before .before .before .before .before .before .before .before .before in
+    let tested = called .before .before .before .before .before .before .before .before .before .before .before .before in
+    laws.end-none _ (tested .if1 .left) (called .feed2 .ensures)
 
 pub finish-spec : {M : Type 1} → statement M
 finish-spec =
