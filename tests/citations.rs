@@ -8,12 +8,15 @@
 //     `folder/file`           a file or folder, or a command that begins with one; * is any crate
 //     FILE, `a`, `b` and `c`  names that FILE declares; also `a` of FILE, `a` in FILE, `a` (FILE), and `a` there: of the file named last
 // docs/ACCEPTANCE.md cites each must-fail edit, and has under 'The public promises' a row for each `pub fn`, with an edit.
+// docs/CONFORMANCE.md has one of three verdicts in each row, cites a name where the verdict is 'proved here', and counts them at its head.
 
 use std::fs;
 use std::path::Path;
 use std::process::exit;
 
 const ACCEPTANCE: &str = "docs/ACCEPTANCE.md";
+const CONFORMANCE: &str = "docs/CONFORMANCE.md";
+const VERDICTS: [&str; 3] = ["proved here", "stricter in the profile", "not in the profile"];
 
 fn read(file: &str) -> String {
     fs::read_to_string(file).unwrap_or_default()
@@ -195,6 +198,32 @@ fn listed(spans: &[Span]) -> Vec<(&Span, &str)> {
     listed
 }
 
+// ---- Verdicts ----
+
+/// What is wrong with the rows of docs/CONFORMANCE.md, and with their counts at its head.
+fn verdict_mistakes(text: &str) -> Vec<String> {
+    let mut mistakes = Vec::new();
+    let mut counts = [0; VERDICTS.len()];
+    for line in text.lines().filter(|line| line.starts_with("| R1-")) {
+        let cells = line.split(" | ").collect::<Vec<_>>();
+        let item = cells[0].trim_start_matches("| ");
+        let given = cells.get(2).map(|cell| cell.trim_matches('*'));
+        match VERDICTS.iter().position(|verdict| given == Some(verdict)) {
+            Some(k) => counts[k] += 1,
+            None => mistakes.push(format!("{CONFORMANCE}: no verdict in the row of {item}")),
+        }
+        if given == Some(VERDICTS[0]) && !cells.get(3).is_some_and(|cell| cell.contains('`')) {
+            mistakes.push(format!("{CONFORMANCE}: no name in the row of {item}"));
+        }
+    }
+    for (verdict, count) in VERDICTS.iter().zip(counts) {
+        if !text.contains(&format!("**{verdict}** ({count} rows)")) {
+            mistakes.push(format!("{CONFORMANCE}: its head has not '{verdict}' ({count} rows)"));
+        }
+    }
+    mistakes
+}
+
 fn main() {
     let crates = read("crates.txt")
         .lines()
@@ -232,6 +261,8 @@ fn main() {
             missing.map(|target| format!("{document}: a link to {target}, which is not there")),
         );
     }
+
+    mistakes.extend(verdict_mistakes(&read(CONFORMANCE)));
 
     let acceptance = read(ACCEPTANCE);
     let promises = acceptance.split("\n## The public promises\n").nth(1).unwrap_or("");
