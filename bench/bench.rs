@@ -10,7 +10,7 @@
 //
 // Compiled with `--cfg base` it has the proved code of another commit too: the three are the plain
 // bridge on words, the base and the new code. The base has to take the arguments of
-// `tests/celltimber.rs`, with the same words in tables, requests and answers.
+// `host/celltimber.rs`, with the same words in tables, requests and answers.
 //
 // The requests come in batches. All three serve a batch before the next one is made. They take
 // turns at being first, and at each of the three copies of the tables. Answers and words are
@@ -20,7 +20,7 @@
 #[path = "../plain/bridge.rs"]
 #[allow(dead_code)]
 mod bridge;
-#[path = "../tests/celltimber.rs"]
+#[path = "../host/celltimber.rs"]
 #[allow(dead_code)]
 mod celltimber;
 #[path = "../plain/random.rs"]
@@ -30,7 +30,7 @@ mod random;
 #[allow(dead_code)]
 mod words;
 
-/// The function of the base. `bench/run` writes the included file: `tests/celltimber.rs`, with the
+/// The function of the base. `bench/run` writes the included file: `host/celltimber.rs`, with the
 /// symbol of the base.
 #[cfg(base)]
 #[path = "."]

@@ -3,7 +3,8 @@
 // --test; each test is a group of checks. Every check compares the whole answer and every word of
 // every table.
 
-#[path = "celltimber.rs"]
+#[path = "../host/celltimber.rs"]
+#[allow(dead_code)]
 mod celltimber;
 
 use celltimber::*;

@@ -7,7 +7,8 @@
 // and tables and requests made here, which go beyond the sizes and lengths of the text. On a
 // difference it prints the seed, the line, the request and both answers.
 
-#[path = "celltimber.rs"]
+#[path = "../host/celltimber.rs"]
+#[allow(dead_code)]
 mod celltimber;
 #[path = "../plain/random.rs"]
 #[allow(dead_code)]

@@ -7,18 +7,18 @@
 #[path = "../plain/bridge.rs"]
 #[allow(dead_code)]
 mod bridge;
-#[path = "celltimber.rs"]
+#[path = "../host/celltimber.rs"]
 #[allow(dead_code)]
 mod celltimber;
-#[path = "premises.rs"]
-mod premises;
+#[path = "owner_tables.rs"]
+mod owner_tables;
 #[path = "../plain/random.rs"]
 #[allow(dead_code)]
 mod random;
 
 use bridge::{Bridge, Name, Part, Request};
 use celltimber::*;
-use premises::*;
+use owner_tables::OwnerTables;
 use random::Random;
 
 // ---- Owners ----

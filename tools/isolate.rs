@@ -8,12 +8,11 @@
 //
 // Exit 0: all is the same. 1: a premise fails, or an answer or a word left differs. 2: it could not be tried.
 
-#[path = "../tests/celltimber.rs"]
+#[path = "../host/celltimber.rs"]
 #[allow(dead_code)]
 mod celltimber;
-#[path = "../tests/premises.rs"]
-#[allow(dead_code)]
-mod premises;
+#[path = "../tests/owner_tables.rs"]
+mod owner_tables;
 #[path = "../plain/replay.rs"]
 #[allow(dead_code)]
 mod replay;
@@ -22,7 +21,7 @@ mod replay;
 mod words;
 
 use celltimber::*;
-use premises::{closed, covers, member, seen, OwnerTables};
+use owner_tables::OwnerTables;
 use replay::bridge::{self, Bridge};
 use replay::{Line, Outcome, Table};
 use std::env;
