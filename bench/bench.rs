@@ -120,6 +120,8 @@ struct Work {
     bridges: usize,
     /// Batches of one repetition.
     batches: usize,
+    /// Requests to a call; a batch that has fewer is one call.
+    to_a_call: usize,
     /// The requests of the next batch.
     batch: Box<dyn Fn(&mut Random) -> Vec<RequestWords>>,
     /// Served before each batch, outside the time.
@@ -128,23 +130,20 @@ struct Work {
     wanted: Box<dyn Fn(&AnswerWords) -> bool>,
 }
 
+/// The requests of a batch in one call.
+const ALL: usize = usize::MAX / REQUEST_WORDS;
+
 fn works() -> Vec<Work> {
     vec![
-        Work {
-            name: "unknown-requester",
-            tables: Bridge::new(PES, 0, REQUESTERS, 0),
-            bridges: 1,
-            batches: 1_000,
-            batch: Box::new(|random| thousand(|| error(REQUESTERS + random.below(REQUESTERS)))),
-            before: Vec::new(),
-            wanted: Box::new(|answer| answer[0] == REFUSE && answer[1] == 3),
-        },
+        refused_work("unknown-requester"),
+        Work { to_a_call: 1, ..refused_work("unknown-one-a-call") },
         dma_work("dma-1-level", 1, 2),
         dma_work("dma-2-level", 2, 2),
         dma_work("dma-3-level", 3, 2),
         dma_work("dma-1-level-reads", 1, 1),
         dma_work("dma-2-level-reads", 2, 1),
         dma_work("dma-3-level-reads", 3, 1),
+        Work { to_a_call: 1, ..dma_work("dma-1-one-a-call", 1, 2) },
         load_work("load-others-empty", [0, 0, 0], [0, 0, 0, 0]),
         load_work("load-others-mode-0", [WINDOW_15, 1 << 32, 1], [WINDOW_15, WINDOW_SIZE, 0, 0]),
         msi_work("msi-and-end"),
@@ -153,6 +152,7 @@ fn works() -> Vec<Work> {
             tables: peer_tables(),
             bridges: 10,
             batches: 1_000,
+            to_a_call: ALL,
             batch: Box::new(|random| vec![freezing(random)]),
             before: clears(),
             wanted: Box::new(|answer| answer[0] == DONE || answer[1] == 5),
@@ -162,11 +162,26 @@ fn works() -> Vec<Work> {
             tables: peer_tables(),
             bridges: 1,
             batches: 1_000,
+            to_a_call: ALL,
             batch: Box::new(|_| clears()),
             before: vec![error(0)],
             wanted: Box::new(|answer| answer[0] == DONE),
         },
     ]
+}
+
+/// Error messages of requesters that no table has.
+fn refused_work(name: &'static str) -> Work {
+    Work {
+        name,
+        tables: Bridge::new(PES, 0, REQUESTERS, 0),
+        bridges: 1,
+        batches: 1_000,
+        to_a_call: ALL,
+        batch: Box::new(|random| thousand(|| error(REQUESTERS + random.below(REQUESTERS)))),
+        before: Vec::new(),
+        wanted: Box::new(|answer| answer[0] == REFUSE && answer[1] == 3),
+    }
 }
 
 fn thousand(request: impl FnMut() -> RequestWords) -> Vec<RequestWords> {
@@ -190,6 +205,7 @@ fn dma_work(name: &'static str, levels: u64, directions: u64) -> Work {
         tables: dma_tables(levels),
         bridges: 1,
         batches: 1_000,
+        to_a_call: ALL,
         batch: Box::new(move |random| thousand(|| passing_dma(random, levels, directions))),
         before: Vec::new(),
         wanted: Box::new(move |answer| answer[0] == PASS && answer[3] == levels),
@@ -256,6 +272,7 @@ fn load_work(name: &'static str, m32: [u64; 3], m64: [u64; 4]) -> Work {
         tables,
         bridges: 1,
         batches: 1_000,
+        to_a_call: ALL,
         batch: Box::new(|random| {
             thousand(|| {
                 let width = 1 << random.below(4);
@@ -278,6 +295,7 @@ fn msi_work(name: &'static str) -> Work {
         tables: interrupt_tables(),
         bridges: 1,
         batches: 1_000,
+        to_a_call: ALL,
         batch: Box::new(|random| {
             let both = |_| {
                 let number = random.below(INTERRUPTS);
@@ -385,16 +403,23 @@ struct Batch {
     answers: Vec<Answer>,
 }
 
-/// The tables of the bridges of one side, the answers of each, and how many were served.
+/// The tables of the bridges of one side, the requests to a call, the answers of each, and how many
+/// were served.
 struct Side {
     bridges: Vec<Bridge>,
+    to_a_call: usize,
     answers: Vec<u64>,
     served: usize,
 }
 
 impl Side {
     fn new(work: &Work) -> Side {
-        Side { bridges: vec![work.tables.clone(); work.bridges], answers: Vec::new(), served: 0 }
+        Side {
+            bridges: vec![work.tables.clone(); work.bridges],
+            to_a_call: work.to_a_call,
+            answers: Vec::new(),
+            served: 0,
+        }
     }
 
     /// Room for the answers of every bridge to so many requests.
@@ -408,7 +433,11 @@ impl Side {
     fn serve(&mut self, requests: &[u64], run: Run) {
         let room = self.answers.chunks_exact_mut(requests.len() / REQUEST_WORDS * ANSWER_WORDS);
         for (tables, answers) in self.bridges.iter_mut().zip(room) {
-            self.served += run(tables, requests, answers);
+            let calls = requests.chunks(self.to_a_call * REQUEST_WORDS);
+            for (requests, answers) in calls.zip(answers.chunks_mut(self.to_a_call * ANSWER_WORDS))
+            {
+                self.served += run(tables, requests, answers);
+            }
         }
     }
 
