@@ -1,7 +1,7 @@
 -- What the functions over the bytes of an input cite.
 --     keep-start, keep-byte, keep-over, keep-feed, keep-done      the bytes of a line: what is kept from the start is what is kept from here
 --     moved-feed, moved-all               a line feed, and an input that ended before one
---     end-none, end-feed                  the end of the input
+--     end-none, end-some, end-length, end-feed    the end of the input
 --     Here, run-start, run-within, run-more, run-less, run-done   the lines of an input: the run from the start is the run from here, i bytes later
 -- Assumes nothing.
 use mathlib.Core.Path.{_≡_, refl, sym, ap, subst, _∙_}
@@ -23,7 +23,7 @@ use Rattle.replay_session.specs.declared.Ended.{Ended}
 use Rattle.replay_text.specs.SessionIsolation.{session-isolation}
 use Rattle.replay_text.specs.Stream.{lineKept, before}
 use Rattle.replay_text.specs.WholeLaws.{whole}
-use Rattle.replay_feed.specs.Feed.{Buffer, kept, keptAll, bufferOf, withBuffer, byteIn, Fed, stopped, later, feedAll, endOf}
+use Rattle.replay_feed.specs.Feed.{Buffer, kept, keptAll, bufferOf, withBuffer, byteIn, Fed, stopped, later, feedAll, endBytes, endOf}
 use Rattle.replay_feed.specs.FeedLaws.{in-text}
 use Rattle.replay_feed.specs.Promise.{KeptTo, MovedTo, movedBy, FedAs}
 use Rattle.replay_feed.specs.declared.Fed.{Fed as FedResult}
@@ -244,9 +244,14 @@ pub fed-unfit : (s : Standing) (l : List ℕ) {f : Bool} → f ≡ fits s → f 
 fed-unfit s l a o = record { returns = rw (← a, o); leaves = rw (← a, o); text = in-text; whole = whole; isolation = session-isolation }
 
 -- `finish`
-module _ (s : Standing) {r : FedResult} {c : Buffers} where
-  pub end-feed : 0 < s .pending → FedAs s (10 ∷ []) r c → FedAs s (endOf s) r c
-  end-feed h f = rw (ne-eqb (s .pending) 0 (λ z. omega (arith, h, z))) f
+pub end-feed : (s : Standing) {n : ℕ} {r : FedResult} {c : Buffers} → n ≡ endBytes (s .pending) → FedAs s (take n (10 ∷ [])) r c → FedAs s (endOf s) r c
+end-feed s h f = rw (← h) f
 
-  pub end-none : s .pending ≤ 0 → FedAs s [] r c → FedAs s (endOf s) r c
-  end-none h f = rw (eq-eqb (s .pending) 0 (omega (arith, h))) f
+pub end-none : (n : ℕ) → n ≡ 0 → 0 ≡ endBytes n
+end-none n h = rw (eq-eqb n 0 h)
+
+pub end-some : (n : ℕ) → (n ≡ 0 → ⊥) → 1 ≡ endBytes n
+end-some n h = rw (ne-eqb n 0 h)
+
+pub end-length : (m : ℕ) {n : ℕ} → n ≡ endBytes m → n ≡ length {A = ℕ} (take n (10 ∷ []))
+end-length m h = rw h (by-cases (eqb m 0) (λ o. rw o) (λ o. rw o))

@@ -6,13 +6,14 @@
 --     stuck s x           byte x is a line feed whose line cannot end
 --     Fed                 where a replay stands, and the count of bytes taken; later n r: with n bytes more; stopped s: none was taken
 --     feedAll s l         WHERE A REPLAY STANDS AFTER A PIECE: all bytes of l are taken up to the first line feed whose line cannot end
+--     endBytes n          how many bytes the end of the input adds where n are pending
 --     endOf s             the end of the input: a missing line feed where bytes are pending, else nothing
 -- Assumes nothing.
 use mathlib.Core.Bool.{Bool, cond, not, _&&_}
 use mathlib.Core.List.{List, [], _∷_}
 use Prim.Native.Nat.{ℕ, suc, _+_}
 use lib.Dec.{eqb, ltb}
-use lib.ListN.{set}
+use lib.ListN.{take, set}
 use Rattle.replay_text.specs.Bytes.{lineFeed}
 use Rattle.replay_session.specs.Standing.{Standing, free, lineDone}
 use Rattle.replay_text.specs.Stream.{lineKept}
@@ -54,5 +55,8 @@ unfoldable pub feedAll : Standing → List ℕ → Fed
 feedAll s [] = stopped s
 feedAll s (x ∷ l) = cond (stuck s x) (stopped s) (later 1 (feedAll (byteIn s x) l))
 
+abbrev pub endBytes : (pending : ℕ) → ℕ
+endBytes n = cond (eqb n 0) 0 1
+
 abbrev pub endOf : Standing → List ℕ
-endOf s = cond (eqb (s .pending) 0) [] (lineFeed ∷ [])
+endOf s = take (endBytes (s .pending)) (lineFeed ∷ [])

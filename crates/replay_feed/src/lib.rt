@@ -6,8 +6,9 @@ use kinds::record::Sizes;
 use replay_session::Progress;
 use replay_session::fit;
 use replay_tables::Extent;
+ghost use mathlib.Core.Path.{_≡_};
 ghost use Rattle.replay_session.specs.Standing.{buffers, standing};
-ghost use Rattle.replay_feed.specs.Feed.{endOf};
+ghost use Rattle.replay_feed.specs.Feed.{endBytes, endOf};
 ghost use Rattle.replay_feed.specs.Promise.{FedAs, Started};
 
 // What became of a piece: so many bytes of it were taken, and the output ends at `at`. Fewer bytes than there are: the next one ends a line, and the
@@ -126,23 +127,8 @@ pub fn finish(
 ) -> Fed
     ensures { λ r. ⌜ FedAs (standing progress (buffers (now (requesters .entry)) (now (entries .entry)) (now (memory .entry)) (now (peers .entry)) (now (interrupts .entry)) (now (windows .entry)) (now (segments .entry)) (now (state .entry)) (now (line .entry)) (now (out .entry))) at) (endOf (standing progress (buffers (now (requesters .entry)) (now (entries .entry)) (now (memory .entry)) (now (peers .entry)) (now (interrupts .entry)) (now (windows .entry)) (now (segments .entry)) (now (state .entry)) (now (line .entry)) (now (out .entry))) at)) r (buffers (now (requesters .exit)) (now (entries .exit)) (now (memory .exit)) (now (peers .exit)) (now (interrupts .exit)) (now (windows .exit)) (now (segments .exit)) (now (state .exit)) (now (line .exit)) (now (out .exit))) ⌝ }
 {
-    if 0 < progress.pending {
-        return feed(
-            progress,
-            requesters,
-            entries,
-            memory,
-            peers,
-            interrupts,
-            windows,
-            segments,
-            state,
-            line,
-            b"\n",
-            out,
-            at,
-        );
-    }
+    let missing = end_bytes(progress.pending);
+    let end: &[u8] = b"\n";
     feed(
         progress,
         requesters,
@@ -154,8 +140,18 @@ pub fn finish(
         segments,
         state,
         line,
-        b"",
+        &end[..missing],
         out,
         at,
     )
+}
+
+// How many bytes the end of the input adds: a line feed where bytes are pending.
+fn end_bytes(pending: usize) -> usize
+    ensures { λ r. ⌜ r ≡ endBytes pending ⌝ }
+{
+    if pending == 0 {
+        return 0;
+    }
+    1
 }

@@ -4,8 +4,14 @@ use borrow.Author.Needs.{needs}
 use Rattle.replay_feed.proofs.finish.Statement.{statement}
 use Rattle.replay_feed.proofs.finish.Tie as tie
 
+end-bytes-requires : tie.Need-end-bytes-requires
+end-bytes-requires c κs = search needs
+
+slice-aggregate-end : tie.Need-slice-aggregate-end
+slice-aggregate-end c = search needs
+
 slice-aggregate-feed : tie.Need-slice-aggregate-feed
-slice-aggregate-feed c = search needs
+slice-aggregate-feed c = search laws.end-length
 
 feed-requires : tie.Need-feed-requires
 feed-requires c κs = search needs
@@ -43,55 +49,15 @@ same-length-10 c = search needs
 returns : tie.Need-returns
 returns c =
     let called = c .before .before .before .before .before .before .before .before .before .before .before .before .before .before .before .before .before .before .before .before in
-    let tested = called .before .before .before .before .before .before .before .before .before .before .before .before in
-    laws.end-feed _ (tested .if1 .taken) (called .feed .ensures)
-
-slice-aggregate-feed-2 : tie.Need-slice-aggregate-feed-2
-slice-aggregate-feed-2 c = search needs
-
-feed-requires-2 : tie.Need-feed-requires-2
-feed-requires-2 c κs = search needs
-
-same-length-11 : tie.Need-same-length-11
-same-length-11 c = search needs
-
-same-length-12 : tie.Need-same-length-12
-same-length-12 c = search needs
-
-same-length-13 : tie.Need-same-length-13
-same-length-13 c = search needs
-
-same-length-14 : tie.Need-same-length-14
-same-length-14 c = search needs
-
-same-length-15 : tie.Need-same-length-15
-same-length-15 c = search needs
-
-same-length-16 : tie.Need-same-length-16
-same-length-16 c = search needs
-
-same-length-17 : tie.Need-same-length-17
-same-length-17 c = search needs
-
-same-length-18 : tie.Need-same-length-18
-same-length-18 c = search needs
-
-same-length-19 : tie.Need-same-length-19
-same-length-19 c = search needs
-
-same-length-20 : tie.Need-same-length-20
-same-length-20 c = search needs
-
-returns-2 : tie.Need-returns-2
-returns-2 c =
-    let called = c .before .before .before .before .before .before .before .before .before .before .before .before .before .before .before .before .before .before .before .before in
-    let tested = called .before .before .before .before .before .before .before .before .before .before .before .before in
-    laws.end-none _ (tested .if1 .left) (called .feed2 .ensures)
+    let asked = called .before .before .before .before .before .before .before .before .before .before .before .before .before in
+    laws.end-feed _ (asked .end-bytes .ensures) (called .feed .ensures)
 
 pub finish-spec : {M : Type 1} → statement M
 finish-spec =
     tie.close
     (tie.spec
+    end-bytes-requires
+    slice-aggregate-end
     slice-aggregate-feed
     feed-requires
     same-length
@@ -104,17 +70,4 @@ finish-spec =
     same-length-8
     same-length-9
     same-length-10
-    returns
-    slice-aggregate-feed-2
-    feed-requires-2
-    same-length-11
-    same-length-12
-    same-length-13
-    same-length-14
-    same-length-15
-    same-length-16
-    same-length-17
-    same-length-18
-    same-length-19
-    same-length-20
-    returns-2)
+    returns)
