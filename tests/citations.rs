@@ -7,7 +7,7 @@
 //     `crate!edit`            crates/crate/must-fail/edit.edit
 //     `folder/file`           a file or folder, or a command that begins with one; * is any crate
 //     FILE, `a`, `b` and `c`  names that FILE declares; also `a` of FILE, `a` in FILE, `a` (FILE), and `a` there: of the file named last
-// docs/ACCEPTANCE.md cites each must-fail edit, and has under 'The public promises' a row for each `pub fn`, with an edit.
+// docs/ACCEPTANCE.md cites each must-fail edit.
 // docs/CONFORMANCE.md has one of three verdicts in each row, cites a name where the verdict is 'proved here', and counts them at its head.
 
 use std::fs;
@@ -75,7 +75,6 @@ fn links(document: &str, text: &str) -> Vec<String> {
 // ---- Sources ----
 
 struct Item<'a> {
-    public: bool,
     kind: &'a str,
     name: &'a str,
 }
@@ -83,20 +82,13 @@ struct Item<'a> {
 /// The item that a line of a program declares outside all blocks. `pub use` has the name that it passes on.
 fn item(line: &str) -> Option<Item<'_>> {
     if let Some(path) = line.strip_prefix("pub use ") {
-        return Some(Item {
-            public: true,
-            kind: "use",
-            name: path.trim_end_matches(';').rsplit("::").next()?,
-        });
+        return Some(Item { kind: "use", name: path.trim_end_matches(';').rsplit("::").next()? });
     }
-    let (public, line) = match line.strip_prefix("pub ") {
-        Some(rest) => (true, rest),
-        None => (false, line.strip_prefix("pub(crate) ").unwrap_or(line)),
-    };
+    let line = line.strip_prefix("pub ").or(line.strip_prefix("pub(crate) ")).unwrap_or(line);
     let (kind, rest) = line.strip_prefix("extern \"C\" ").unwrap_or(line).split_once(' ')?;
     let end = rest.find(|c: char| !c.is_alphanumeric() && c != '_').unwrap_or(rest.len());
     let kinds = ["fn", "struct", "enum", "const", "static", "type"];
-    kinds.contains(&kind).then_some(Item { public, kind, name: &rest[..end] })
+    kinds.contains(&kind).then_some(Item { kind, name: &rest[..end] })
 }
 
 /// The name that a line of definitions or laws declares: a record or its field, a type or its constructor, a function, a law, a set of rules.
@@ -265,28 +257,11 @@ fn main() {
     mistakes.extend(verdict_mistakes(&read(CONFORMANCE)));
 
     let acceptance = read(ACCEPTANCE);
-    let promises = acceptance.split("\n## The public promises\n").nth(1).unwrap_or("");
-    let rows =
-        promises.lines().map(|line| line.split(" | ").collect::<Vec<_>>()).collect::<Vec<_>>();
     for name in &crates {
         for edit in files(&format!("crates/{name}/must-fail")) {
             let edit = format!("{name}!{}", stem(&edit));
             if !acceptance.contains(&format!("`{edit}`")) {
                 mistakes.push(format!("{ACCEPTANCE}: the edit {edit} is not cited"));
-            }
-        }
-        for source in files(&format!("crates/{name}/src")) {
-            let text = read(&source);
-            for item in
-                text.lines().filter_map(item).filter(|item| item.public && item.kind == "fn")
-            {
-                let cited = format!("`{name}::{}`", item.name);
-                let row = rows.iter().find(|row| row[0].contains(&cited));
-                if !row.is_some_and(|row| row.get(2).is_some_and(|kept| kept.contains('!'))) {
-                    mistakes.push(format!(
-                        "{ACCEPTANCE}: no row with an edit for the public function {cited}"
-                    ));
-                }
             }
         }
     }
