@@ -103,6 +103,8 @@ m32Cases =
     -- 1 MiB, at 0 and up to 2 ^ 64
     ∷ found (m32 0 0x100000 0x300000) 0x1234 0x301234 1
     ∷ found (m32 0xFFFFFFFFFFF00000 0x100000 0) 0xFFFFFFFFFFFFFFFF 0xFFFFF 3
+    -- up to 2 ^ 32 on the PCI side, where a DMA would be an MSI
+    ∷ found (m32 0x100000000 0x10000000 0xF0000000) 0x10FFFFFFF 0xFFFFFFFF 3
     -- 4 GiB: PCI base 0 only
     ∷ found (m32 0x700000000 0x100000000 0) 0x702345678 0x2345678 2
     ∷ lost (m32 0x700000000 0x100000000 0x100000000) 0x702345678
