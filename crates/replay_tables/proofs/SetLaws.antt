@@ -10,7 +10,7 @@ use lib.Dec.{ltb}
 use lib.ListN.{take, set}
 use Rattle.kinds.specs.Tests.{by-cases}
 use Rattle.replay_text.specs.declared.Table.{Table}
-use Rattle.replay_text.specs.declared.Table.the-variants.{Requesters, Translation, Memory, Peers, Interrupts, Windows, Segments, State}
+use Rattle.replay_text.specs.declared.Table.the-variants.{Requesters, Entries, Memory, Peers, Interrupts, Windows, Segments, State}
 use Rattle.profile.specs.Tables.{entryWords, peerWords, interruptWords, windowWords, segmentCount, stateWords}
 use Rattle.replay_tables.specs.Lent.{Lent, lent, once, inUse, listOf, withList}
 use Rattle.replay_tables.specs.Promise.{DidSet, SetPart, mayset}
@@ -37,9 +37,9 @@ module _ (x : Extent) (q e m p n w g t : List ℕ) (k : Table) (i v : ℕ) (r : 
   unfolding tableOf fits
   set-requesters h d = rw h (put b Requesters i v (x .sizes .requesters) q (ltb v (2 ^ 16)) (λ o. lent x o e m p n w g t) refl refl refl refl (rw mul-one at d))
 
-  pub set-translation : k ≡ Translation → SetPart (x .sizes .pes * entryWords) e i v true r l → DidSet b k i v r (lent x q l m p n w g t)
+  pub set-entries : k ≡ Entries → SetPart (x .sizes .pes * entryWords) e i v true r l → DidSet b k i v r (lent x q l m p n w g t)
   unfolding tableOf fits
-  set-translation h d = rw h (put b Translation i v (x .sizes .pes * entryWords) e true (λ o. lent x q o m p n w g t) refl refl refl refl d)
+  set-entries h d = rw h (put b Entries i v (x .sizes .pes * entryWords) e true (λ o. lent x q o m p n w g t) refl refl refl refl d)
 
   pub set-memory : k ≡ Memory → SetPart (x .memory * 1) m i v true r l → DidSet b k i v r (lent x q e l p n w g t)
   unfolding tableOf fits

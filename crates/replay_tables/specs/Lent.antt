@@ -24,7 +24,7 @@ use Rattle.kinds.specs.declared.request.Request.{Request}
 use Rattle.replay_text.specs.declared.Line.{Line}
 use Rattle.replay_text.specs.declared.Line.the-variants.{Size, Set, Bad, Request as RequestLine}
 use Rattle.replay_text.specs.declared.Table.{Table}
-use Rattle.replay_text.specs.declared.Table.the-variants.{Requesters, Translation, Memory, Peers, Interrupts, Windows, Segments, State}
+use Rattle.replay_text.specs.declared.Table.the-variants.{Requesters, Entries, Memory, Peers, Interrupts, Windows, Segments, State}
 use Rattle.profile.specs.Step.{after}
 use Rattle.profile.specs.Tables.{Live, entryWords, peerWords, interruptWords, windowWords, segmentCount, stateWords}
 use Rattle.sizes.specs.Tables.{lengthsOf}
@@ -64,7 +64,7 @@ once n = cond (eqb n 0) 0 1
 
 abbrev pub usedBy : Extent → Table → ℕ
 usedBy x Requesters = x .sizes .requesters
-usedBy x Translation = x .sizes .pes * entryWords
+usedBy x Entries = x .sizes .pes * entryWords
 usedBy x Memory = x .memory
 usedBy x Peers = x .sizes .pes * peerWords
 usedBy x Interrupts = x .sizes .interrupts * interruptWords
@@ -74,7 +74,7 @@ usedBy x State = x .sizes .pes * stateWords
 
 abbrev pub listOf : Lent → Table → List ℕ
 listOf b Requesters = b .requesters
-listOf b Translation = b .entries
+listOf b Entries = b .entries
 listOf b Memory = b .memory
 listOf b Peers = b .peers
 listOf b Interrupts = b .interrupts
@@ -90,7 +90,7 @@ inUse b =
     session
     (b .extent .sizes)
     (usedOf b Requesters)
-    (usedOf b Translation)
+    (usedOf b Entries)
     (usedOf b Memory)
     (usedOf b Peers)
     (usedOf b Interrupts)
@@ -160,7 +160,7 @@ sizedTo x b = cond (roomFor (sizeLine x) (lengthsIn b)) (clearedTo x b) b
 
 abbrev pub withList : Lent → Table → List ℕ → Lent
 withList b Requesters l = lent (b .extent) l (b .entries) (b .memory) (b .peers) (b .interrupts) (b .windows) (b .segments) (b .state)
-withList b Translation l = lent (b .extent) (b .requesters) l (b .memory) (b .peers) (b .interrupts) (b .windows) (b .segments) (b .state)
+withList b Entries l = lent (b .extent) (b .requesters) l (b .memory) (b .peers) (b .interrupts) (b .windows) (b .segments) (b .state)
 withList b Memory l = lent (b .extent) (b .requesters) (b .entries) l (b .peers) (b .interrupts) (b .windows) (b .segments) (b .state)
 withList b Peers l = lent (b .extent) (b .requesters) (b .entries) (b .memory) l (b .interrupts) (b .windows) (b .segments) (b .state)
 withList b Interrupts l = lent (b .extent) (b .requesters) (b .entries) (b .memory) (b .peers) l (b .windows) (b .segments) (b .state)

@@ -14,7 +14,7 @@ use Rattle.profile.specs.Tables.{entryWords, peerWords, windowWords, segmentCou
 use Rattle.replay_text.specs.SessionTables.{tableOf, fits}
 use Rattle.replay_text.specs.declared.Line.{Line}
 use Rattle.replay_text.specs.declared.Line.the-variants.{Size, Set, Request, Bad}
-use Rattle.replay_text.specs.declared.Table.the-variants.{Requesters, Translation, Memory, Peers, Interrupts, Windows, Segments, State}
+use Rattle.replay_text.specs.declared.Table.the-variants.{Requesters, Entries, Memory, Peers, Interrupts, Windows, Segments, State}
 use Rattle.replay_tables.specs.Lent.{Lent, lent, extentOf, roomFor, afterIn}
 
 abbrev zeros : ℕ → List ℕ
@@ -74,7 +74,7 @@ lentCases =
     ∷ leaves (Set Requesters 0 65535) (lists (65535 ∷ 90 ∷ []) (5 ∷ 6 ∷ 92 ∷ []) quiet running)
     ∷ leaves (Set Requesters 0 65536) tables
     ∷ leaves (Set Requesters 1 1) tables
-    ∷ leaves (Set Translation 8 1) tables
+    ∷ leaves (Set Entries 8 1) tables
     ∷ leaves (Set Memory 1 7) (lists (0 ∷ 90 ∷ []) (5 ∷ 7 ∷ 92 ∷ []) quiet running)
     ∷ leaves (Set Memory 2 7) tables
     ∷ leaves (Set Peers 4 1) tables

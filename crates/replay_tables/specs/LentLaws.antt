@@ -23,7 +23,7 @@ use Rattle.kinds.specs.declared.request.Request.{Request}
 use Rattle.replay_text.specs.declared.Line.{Line}
 use Rattle.replay_text.specs.declared.Line.the-variants.{Size, Set, Bad, Request as RequestLine}
 use Rattle.replay_text.specs.declared.Table.{Table}
-use Rattle.replay_text.specs.declared.Table.the-variants.{Requesters, Translation, Memory, Peers, Interrupts, Windows, Segments, State}
+use Rattle.replay_text.specs.declared.Table.the-variants.{Requesters, Entries, Memory, Peers, Interrupts, Windows, Segments, State}
 use Rattle.profile.specs.Agree.{Same, owned}
 use Rattle.profile.specs.Owner.{owner}
 use Rattle.profile.specs.RequestLaws.{after-unseen}
@@ -90,7 +90,7 @@ module _ (b : Lent) (i v : ℕ) where
   pub set-in-use : (t : Table) → settable (inUse b) t i v ≡ true → inUse (withList b t (set (listOf b t) i v)) ≡ stored (inUse b) t i v
   unfolding tableOf storedIn
   set-in-use Requesters h = rw (took Requesters h refl)
-  set-in-use Translation h = rw (took Translation h refl)
+  set-in-use Entries h = rw (took Entries h refl)
   set-in-use Memory h = rw (took Memory h refl)
   set-in-use Peers h = rw (took Peers h refl)
   set-in-use Interrupts h = rw (took Interrupts h refl)
@@ -146,7 +146,7 @@ cleared-lengths x b = simp length-replicate
 
 list-lengths : (b : Lent) (t : Table) (i v : ℕ) → lengthsIn (withList b t (set (listOf b t) i v)) ≡ lengthsIn b
 list-lengths b Requesters i v = simp length-set
-list-lengths b Translation i v = simp length-set
+list-lengths b Entries i v = simp length-set
 list-lengths b Memory i v = simp length-set
 list-lengths b Peers i v = simp length-set
 list-lengths b Interrupts i v = simp length-set

@@ -97,7 +97,7 @@ pub fn set_in(
     let there = once(sizes.pes);
     match table {
         Table::Requesters => set_short(requesters, sizes.requesters, 1, index, value),
-        Table::Translation => set_word(entries, sizes.pes, ENTRY_WORDS, index, value),
+        Table::Entries => set_word(entries, sizes.pes, ENTRY_WORDS, index, value),
         Table::Memory => set_word(memory, extent.memory, 1, index, value),
         Table::Peers => set_word(peers, sizes.pes, PEER_WORDS, index, value),
         Table::Interrupts => set_word(interrupts, sizes.interrupts, INTERRUPT_WORDS, index, value),

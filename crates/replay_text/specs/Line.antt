@@ -22,7 +22,7 @@ use Rattle.kinds.specs.declared.request.Part.{Part}
 use Rattle.kinds.specs.declared.request.Part.the-variants.{Mmio, Dma as DmaPart, Record}
 use Rattle.kinds.specs.declared.request.Request.the-variants.{Dma, Load, Store, Error, Clear, End, Priority}
 use Rattle.replay_text.specs.declared.Table.{Table}
-use Rattle.replay_text.specs.declared.Table.the-variants.{Requesters, Translation, Memory, Peers, Interrupts, Windows, Segments, State}
+use Rattle.replay_text.specs.declared.Table.the-variants.{Requesters, Entries, Memory, Peers, Interrupts, Windows, Segments, State}
 use Rattle.replay_text.specs.declared.Line.{Line}
 use Rattle.replay_text.specs.declared.Line.the-variants.{Size, Set, Request, Bad}
 use Rattle.replay_text.specs.Field.{fieldsOf, numberOf, only}
@@ -50,7 +50,7 @@ numbers k = field numberOf (λ a. final numberOf (k a))
 abbrev pub tables : List (String × Table)
 tables =
     ("requesters", Requesters)
-    ∷ ("translation", Translation)
+    ∷ ("translation", Entries)
     ∷ ("memory", Memory)
     ∷ ("peers", Peers)
     ∷ ("interrupts", Interrupts)

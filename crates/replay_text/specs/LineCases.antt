@@ -14,7 +14,7 @@ use Rattle.kinds.specs.declared.request.Part.the-variants.{Mmio, Dma as DmaPart
 use Rattle.kinds.specs.declared.request.Request.the-variants.{Dma, Load, Store, Error, Clear, End, Priority}
 use Rattle.replay_text.specs.declared.Line.{Line}
 use Rattle.replay_text.specs.declared.Line.the-variants.{Size, Set, Request, Bad}
-use Rattle.replay_text.specs.declared.Table.the-variants.{Requesters, Translation, Memory, Peers, Interrupts, Windows, Segments, State}
+use Rattle.replay_text.specs.declared.Table.the-variants.{Requesters, Entries, Memory, Peers, Interrupts, Windows, Segments, State}
 use Rattle.replay_text.specs.Bytes.{bytes}
 use Rattle.replay_text.specs.Field.{fieldsOf, numberFrom, numberOf, only, is}
 use Rattle.replay_text.specs.Line.{field, final, numbers, sized, dma, lineOf}
@@ -40,7 +40,7 @@ sizes =
 unfoldable pub stores : List (String × Line)
 stores =
     ("set\trequesters\t5\t2", Set Requesters 5 2)
-    ∷ ("set\ttranslation\t10\t2000", Set Translation 0x10 0x2000)
+    ∷ ("set\ttranslation\t10\t2000", Set Entries 0x10 0x2000)
     ∷ ("set\tmemory\t403\t12345003", Set Memory 0x403 0x12345003)
     ∷ ("set\tpeers\t4\tffffffffffffffff", Set Peers 4 0xffff_ffff_ffff_ffff)
     ∷ ("set\tinterrupts\tffffffffffffffff\t0", Set Interrupts 0xffff_ffff_ffff_ffff 0)

@@ -13,7 +13,7 @@ use lib.Dec.{ltb}
 use lib.ListN.{length, set, replicate}
 use Rattle.kinds.specs.declared.record.Sizes.{Sizes}
 use Rattle.replay_text.specs.declared.Table.{Table}
-use Rattle.replay_text.specs.declared.Table.the-variants.{Requesters, Translation, Memory, Peers, Interrupts, Windows, Segments, State}
+use Rattle.replay_text.specs.declared.Table.the-variants.{Requesters, Entries, Memory, Peers, Interrupts, Windows, Segments, State}
 use Rattle.profile.specs.Tables.{Tables, Live, entryWords, peerWords, interruptWords, windowWords, segmentCount, stateWords}
 
 pub record Session : Type 0 where
@@ -53,7 +53,7 @@ start = session (sizesOf 0 0 0) [] [] [] [] [] [] [] []
 
 unfoldable pub tableOf : Session → Table → List ℕ
 tableOf s Requesters = s .tables .requesters
-tableOf s Translation = s .tables .entries
+tableOf s Entries = s .tables .entries
 tableOf s Memory = s .memory
 tableOf s Peers = s .tables .peers
 tableOf s Interrupts = s .live .interrupts
@@ -65,7 +65,7 @@ tableOf s State = s .live .state
 unfoldable pub fits : Table → ℕ → Bool
 fits Requesters v = ltb v (2 ^ 16)
 fits Segments v = ltb v (2 ^ 16)
-fits Translation v = true
+fits Entries v = true
 fits Memory v = true
 fits Peers v = true
 fits Interrupts v = true
@@ -75,7 +75,7 @@ fits State v = true
 -- the session of these words, with word i of table t set to v
 unfoldable pub storedIn : Sizes → (requesters entries memory peers interrupts windows segments state : List ℕ) → Table → (i v : ℕ) → Session
 storedIn z q e m p n w g t Requesters i v = session z (set q i v) e m p n w g t
-storedIn z q e m p n w g t Translation i v = session z q (set e i v) m p n w g t
+storedIn z q e m p n w g t Entries i v = session z q (set e i v) m p n w g t
 storedIn z q e m p n w g t Memory i v = session z q e (set m i v) p n w g t
 storedIn z q e m p n w g t Peers i v = session z q e m (set p i v) n w g t
 storedIn z q e m p n w g t Interrupts i v = session z q e m p (set n i v) w g t

@@ -10,7 +10,7 @@ pub const LINE_FEED: u8 = 10;
 // The tables, as a set line names them.
 pub enum Table {
     Requesters,
-    Translation,
+    Entries,
     Memory,
     Peers,
     Interrupts,

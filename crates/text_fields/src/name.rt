@@ -94,7 +94,7 @@ pub fn table_at(place: u64) -> Table
         return Table::Requesters;
     }
     if place == 1 {
-        return Table::Translation;
+        return Table::Entries;
     }
     if place == 2 {
         return Table::Memory;

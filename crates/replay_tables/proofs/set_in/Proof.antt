@@ -65,7 +65,7 @@ same-length-2 : tie.Need-same-length-2
 same-length-2 c = search needs
 
 returns-2 : tie.Need-returns-2
-returns-2 c = search laws.set-translation
+returns-2 c = search laws.set-entries
 
 same-length-3 : tie.Need-same-length-3
 same-length-3 c = search needs
