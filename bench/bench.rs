@@ -23,12 +23,12 @@ mod bridge;
 #[path = "../host/celltimber.rs"]
 #[allow(dead_code)]
 mod celltimber;
-#[path = "../plain/random.rs"]
+#[path = "../tests/plain_words.rs"]
+#[allow(dead_code)]
+mod plain_words;
+#[path = "../tests/random.rs"]
 #[allow(dead_code)]
 mod random;
-#[path = "../tests/words.rs"]
-#[allow(dead_code)]
-mod words;
 
 /// The function of the base. `bench/run` writes the included file: `host/celltimber.rs`, with the
 /// symbol of the base.
@@ -40,16 +40,16 @@ mod base {
     mod celltimber {
         include!("../target/bench/base/celltimber.rs");
     }
-    #[path = "../tests/words.rs"]
-    pub mod words;
+    #[path = "../tests/plain_words.rs"]
+    pub mod plain_words;
 }
 
 use bridge::{Answer, Bridge, Name, Part, Request};
 use celltimber::*;
+use plain_words::{answer_words, run_proved};
 use random::Random;
 use std::process::exit;
 use std::time::Instant;
-use words::{answer_words, run_proved};
 
 /// Stands in answer words before a call.
 const UNWRITTEN: u64 = 0x5555_AAAA_5555_AAAA;
@@ -386,7 +386,7 @@ const PROVED: Program = Program {
 #[cfg(base)]
 const BASE: Program = Program {
     name: "base",
-    run: base::words::run_proved,
+    run: base::plain_words::run_proved,
     serve: |side, batch| serve_base(side, &batch.words),
 };
 
@@ -477,7 +477,7 @@ fn serve_proved(side: &mut Side, requests: &[u64]) {
 #[cfg(base)]
 #[inline(never)]
 fn serve_base(side: &mut Side, requests: &[u64]) {
-    side.serve(requests, base::words::run_proved);
+    side.serve(requests, base::plain_words::run_proved);
 }
 
 /// The orders in which the three programs serve, and the side of each: they take turns.

@@ -10,21 +10,20 @@
 #[path = "../host/celltimber.rs"]
 #[allow(dead_code)]
 mod celltimber;
-#[path = "../plain/random.rs"]
+mod plain_words;
 #[allow(dead_code)]
 mod random;
 #[path = "../plain/replay.rs"]
 #[allow(dead_code)]
 mod replay;
-mod words;
 
 use celltimber::*;
+use plain_words::{answer_words, request_words, run_proved};
 use random::Random;
 use replay::bridge::{self, Bridge, Part, Request};
 use replay::Line;
 use std::fmt::LowerHex;
 use std::process::{exit, Command, Stdio};
-use words::{answer_words, request_words, run_proved};
 
 /// Stands in answer words before a call.
 const UNWRITTEN: u64 = 0x5555_AAAA_5555_AAAA;

@@ -12,7 +12,6 @@ mod bridge;
 mod celltimber;
 #[path = "owner_tables.rs"]
 mod owner_tables;
-#[path = "../plain/random.rs"]
 #[allow(dead_code)]
 mod random;
 

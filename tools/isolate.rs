@@ -13,22 +13,22 @@
 mod celltimber;
 #[path = "../tests/owner_tables.rs"]
 mod owner_tables;
+#[path = "../tests/plain_words.rs"]
+#[allow(dead_code)]
+mod plain_words;
 #[path = "../plain/replay.rs"]
 #[allow(dead_code)]
 mod replay;
-#[path = "../tests/words.rs"]
-#[allow(dead_code)]
-mod words;
 
 use celltimber::*;
 use owner_tables::OwnerTables;
+use plain_words::{request_words, run_proved};
 use replay::bridge::{self, Bridge};
 use replay::{Line, Outcome, Table};
 use std::env;
 use std::fs;
 use std::io::{self, Write};
 use std::process::exit;
-use words::{request_words, run_proved};
 
 /// A bit vector: PE k is bit k mod 64 of word k div 64.
 type Group = [u64; 4];

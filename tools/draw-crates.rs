@@ -3,7 +3,7 @@
 //     crates svg      the figure: a crate stands above those that it uses
 //     crates list     a line to each crate: its name, the first sentence of its source, what it is over
 //
-// Run in the root of the repository; docs/draw-crates does that. A use that others imply is left
+// Run in the root of the repository; tools/draw-crates does that. A use that others imply is left
 // out. No crate is named here.
 
 use std::collections::HashMap;
