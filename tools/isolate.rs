@@ -37,27 +37,18 @@ const NO_GROUP: Group = [0; 4];
 
 // ---- Files ----
 
-struct SetLine {
-    number: usize,
-    text: String,
-    table: Table,
-    index: usize,
-    value: u64,
-}
-
 struct RequestLine {
     number: usize,
     text: String,
     words: RequestWords,
 }
 
-/// A replay file: its size line, the set lines after it, and its requests. A bad line changes
-/// nothing and belongs to nobody.
+/// A replay file: its size line, the tables after its set lines, and its requests. A bad line
+/// changes nothing and belongs to nobody.
 struct File {
     name: String,
     size: (usize, String),
     tables: Bridge,
-    sets: Vec<SetLine>,
     requests: Vec<RequestLine>,
 }
 
@@ -65,7 +56,6 @@ fn read(name: &str) -> Result<File, String> {
     let bytes = fs::read(name).unwrap_or_else(|error| stop(&format!("{}: {}", name, error)));
     let mut size = None;
     let mut tables = Bridge::default();
-    let mut sets = Vec::new();
     let mut requests: Vec<RequestLine> = Vec::new();
     for (place, line) in bytes.split(|&byte| byte == b'\n').enumerate() {
         let number = place + 1;
@@ -78,10 +68,7 @@ fn read(name: &str) -> Result<File, String> {
         if replay::take(&mut tables, line) == Outcome::Bad {
             continue;
         }
-        if let Some(Line::Set { table, index, value }) = parsed {
-            sets.push(SetLine { number, text, table, index: index as usize, value });
-        } else {
-            sets.clear();
+        if let Some(Line::Size { .. }) = parsed {
             size = Some((number, text));
         }
         if let Some(first) = requests.first() {
@@ -93,7 +80,7 @@ fn read(name: &str) -> Result<File, String> {
     }
     match size {
         None => Err(format!("a size line: {} has none that is good", name)),
-        Some(size) => Ok(File { name: name.to_string(), size, tables, sets, requests }),
+        Some(size) => Ok(File { name: name.to_string(), size, tables, requests }),
     }
 }
 
@@ -164,29 +151,48 @@ fn mark(marks: &mut [u64], bits: u64, below: u64, first: u64) {
     }
 }
 
-/// The set lines of a file that `counts` picks.
-fn picked<'a>(file: &'a File, counts: &impl Fn(&SetLine) -> bool) -> Vec<&'a SetLine> {
-    file.sets.iter().filter(|line| counts(line)).collect()
+const TABLES: [(Table, &str); 8] = [
+    (Table::Requesters, "requesters"),
+    (Table::Translation, "translation"),
+    (Table::Memory, "memory"),
+    (Table::Peers, "peers"),
+    (Table::Interrupts, "interrupts"),
+    (Table::Windows, "windows"),
+    (Table::Segments, "segments"),
+    (Table::State, "state"),
+];
+
+fn words_of(tables: &Bridge, table: Table) -> Vec<u64> {
+    let wide = |words: &[u16]| words.iter().map(|&word| word.into()).collect();
+    match table {
+        Table::Requesters => wide(&tables.requesters),
+        Table::Translation => tables.translation.clone(),
+        Table::Memory => tables.memory.clone(),
+        Table::Peers => tables.peers.clone(),
+        Table::Interrupts => tables.interrupts.clone(),
+        Table::Windows => tables.windows.clone(),
+        Table::Segments => wide(&tables.segments),
+        Table::State => tables.state.clone(),
+    }
 }
 
-/// The set lines of both files that `counts` picks have to be the same, in the same order.
-fn same_sets(
-    what: &str,
+/// The words of both files that `counts` picks have to be the same; of a stop word its two stop bits.
+fn same_words(
     files: &[File; 2],
-    counts: impl Fn(&SetLine) -> bool,
+    tables: &[(Table, &str)],
+    counts: impl Fn(Table, usize) -> bool,
 ) -> Result<(), String> {
     let [a, b] = files;
-    let (of_a, of_b) = (picked(a, &counts), picked(b, &counts));
-    let said = |line: &&SetLine| (line.table, line.index, line.value);
-    for k in 0..of_a.len().max(of_b.len()) {
-        let (x, y) = (of_a.get(k), of_b.get(k));
-        if x.map(said) != y.map(said) {
-            return Err(format!(
-                "{}: {}, {}",
-                what,
-                place(a, x.map(|x| (x.number, &*x.text))),
-                place(b, y.map(|y| (y.number, &*y.text)))
-            ));
+    for &(table, name) in tables {
+        let words = files.each_ref().map(|file| words_of(&file.tables, table));
+        for (i, (x, y)) in words[0].iter().zip(&words[1]).enumerate() {
+            let bits = if table == Table::State && i % 3 == 0 { 3 } else { u64::MAX };
+            if x & bits != y & bits && counts(table, i) {
+                return Err(format!(
+                    "{} {:x} is {:x} in {}, {:x} in {}",
+                    name, i, x, a.name, y, b.name
+                ));
+            }
         }
     }
     Ok(())
@@ -249,15 +255,9 @@ fn shown(answer: &AnswerWords) -> String {
 
 /// Whether the group's stop bits, error records and interrupt records are equal.
 fn same_afterwards(files: &[File; 2], group: &Group) -> bool {
-    let [a, b] = files.each_ref().map(|file| &file.tables);
-    let counts = |table: Table, i| seen(&a.interrupts, &[], group, table as u64, i);
-    let state = (0..a.state.len()).all(|i| {
-        let bits = if i % 3 == 0 { 3 } else { u64::MAX };
-        !counts(Table::State, i) || a.state[i] & bits == b.state[i] & bits
-    });
-    let interrupts = (0..a.interrupts.len())
-        .all(|i| !counts(Table::Interrupts, i) || a.interrupts[i] == b.interrupts[i]);
-    state && interrupts
+    let written = [(Table::State, "state"), (Table::Interrupts, "interrupts")];
+    let interrupts = &files[0].tables.interrupts;
+    same_words(files, &written, |table, i| seen(interrupts, &[], group, table as u64, i)).is_ok()
 }
 
 /// Rows as lines, each column as wide as its widest field.
@@ -285,17 +285,18 @@ fn compare(group_text: &str, names: [&str; 2]) -> Result<(String, bool), String>
     }
     let group = group(group_text, sizes[0].0)?;
     let tables = &files[0].tables;
-    let seen = |marks: &[u64], group: &Group, line: &SetLine| {
-        seen(&tables.interrupts, marks, group, line.table as u64, line.index)
+    let seen = |marks: &[u64], group: &Group, table: Table, i| {
+        seen(&tables.interrupts, marks, group, table as u64, i)
     };
-    let public = |line: &SetLine| seen(&[], &NO_GROUP, line);
-    same_sets("the same set lines for what is public", &files, public)?;
+    let public = |table, i| seen(&[], &NO_GROUP, table, i);
+    same_words(&files, &TABLES, public)
+        .map_err(|words| format!("the same words for what is public: {}", words))?;
     let marks = marks(tables, &group);
     if !covers(&tables.translation, &tables.memory, &marks, &group) {
         stop("the marks of the group's table words miss one");
     }
-    let groups = |line: &SetLine| !public(line) && seen(&marks, &group, line);
-    same_sets("the same set lines for what is the group's", &files, groups)?;
+    same_words(&files, &TABLES, |table, i| seen(&marks, &group, table, i))
+        .map_err(|words| format!("the same words for what is the group's: {}", words))?;
     if !closed(tables.n, &tables.peers, &group) {
         return Err(format!("no PE outside the group lists a member: {}", breach(tables, &group)));
     }

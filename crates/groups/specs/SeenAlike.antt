@@ -1,14 +1,17 @@
 -- Two bridges that agree in the words that are public or the group's.
 --     tableOf a n         table n of bridge a, in the order of 01's list
---     SeenAlike g t a b   sizes and lengths are equal, and so is every word that is seen in the first bridge, t being the marks of its memory
+--     seenOf n i x        what counts of word i, of value x, of table n: of a stop word the lowest two bits, of another word all
+--     SeenAlike g t a b   sizes and lengths are equal, and so is what counts of every word that is seen in the first bridge, t being the marks of its
+--                         memory
 -- Assumes nothing.
 use mathlib.Core.Path.{_≡_}
-use mathlib.Core.Bool.{true}
+use mathlib.Core.Bool.{true, cond}
 use mathlib.Core.List.{List, []}
 use Prim.Native.Nat.{ℕ, zero, suc}
+use lib.Dec.{eqb}
 use Rattle.kinds.specs.Words.{at}
 use Rattle.isolation.specs.View.{Bridge, bridgeLengths}
-use Rattle.members.specs.Member.{group}
+use Rattle.profile.specs.Agree.{seenWord}
 use Rattle.groups.specs.Seen.{seen}
 
 abbrev pub tableOf : Bridge → ℕ → List ℕ
@@ -22,7 +25,10 @@ tableOf a (suc (suc (suc (suc (suc (suc zero)))))) = a .tables .segments
 tableOf a (suc (suc (suc (suc (suc (suc (suc zero))))))) = a .live .state
 tableOf a (suc (suc (suc (suc (suc (suc (suc (suc n)))))))) = []
 
+abbrev pub seenOf : (table index word : ℕ) → ℕ
+seenOf n i x = cond (eqb n 7) (seenWord i x) x
+
 pub record SeenAlike (g t : List ℕ) (a b : Bridge) : Type 0 where
   pub sizes : a .tables .sizes ≡ b .tables .sizes
   pub all-lengths : bridgeLengths a ≡ bridgeLengths b
-  pub words : (n i : ℕ) → seen g (a .live .interrupts) t n i ≡ true → at (tableOf a n) i ≡ at (tableOf b n) i
+  pub words : (n i : ℕ) → seen g (a .live .interrupts) t n i ≡ true → seenOf n i (at (tableOf a n) i) ≡ seenOf n i (at (tableOf b n) i)

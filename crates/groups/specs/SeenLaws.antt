@@ -12,13 +12,13 @@ use native.Mathlib.Omega.{arith}
 use lib.Dec.{ltb, eqb}
 use lib.ListN.{length, List·getD-eq-default}
 use lib.Seq.{ext-getD}
-use borrow.Author.Tests.{ltb-true, ltb-false, eq-eqb}
+use borrow.Author.Tests.{ltb-true, ltb-false, eq-eqb, ne-eqb}
 use Rattle.kinds.specs.Tests.{by-cases}
 use Rattle.kinds.specs.Words.{at, noPe, peAt}
 use Rattle.kinds.specs.WordsLaws.{pe-in}
 use Rattle.kinds.specs.declared.number.PeNumber.{PeNumber}
 use Rattle.kinds.specs.declared.record.Lengths.{Lengths}
-use Rattle.profile.specs.Agree.{interruptPe}
+use Rattle.profile.specs.Agree.{interruptPe, seenWord}
 use Rattle.profile.specs.Entry.{entry}
 use Rattle.profile.specs.Msi.{interrupt}
 use Rattle.profile.specs.Tables.{entryWords, recordWords, interruptWords, stateWords}
@@ -59,7 +59,7 @@ module _ (g t : List ℕ) (a b : Bridge) (s : SeenAlike g t a b) where
       s .words 4 (i * interruptWords + j) (by-cases (eqb ((i * interruptWords + j) % interruptWords) 0) (λ o. rw o) (λ o. rw (o, e) m))
 
   state-word : (p : PeNumber) → group g p ≡ true → (j : ℕ) → j < stateWords
-      → at (a .live .state) (p .0 * stateWords + j) ≡ at (b .live .state) (p .0 * stateWords + j)
+      → seenWord (p .0 * stateWords + j) (at (a .live .state) (p .0 * stateWords + j)) ≡ seenWord (p .0 * stateWords + j) (at (b .live .state) (p .0 * stateWords + j))
   unfolding seen
   state-word p m j h = let e : (p .0 * stateWords + j) / stateWords ≡ p .0 = omega arith in s .words 7 (p .0 * stateWords + j) (rw e m)
 
@@ -82,9 +82,9 @@ module _ (g t : List ℕ) (a b : Bridge) (s : SeenAlike g t a b) where
 
   written-same : Written (group g) (a .tables .sizes .interrupts) (a .live) (b .live)
   written-same = record {
-    stop-bits = λ p m. ap (λ (x : ℕ). x % 4) (rw add-zero at (state-word p m 0 (omega arith)));
-    reason = λ p m. state-word p m 1 (omega arith);
-    value = λ p m. state-word p m 2 (omega arith);
+    stop-bits = λ p m. rw (add-zero, eq-eqb (p .0 * stateWords % stateWords) 0 (omega arith)) at (state-word p m 0 (omega arith));
+    reason = λ p m. rw (ne-eqb ((p .0 * stateWords + 1) % stateWords) 0 (omega arith)) at (state-word p m 1 (omega arith));
+    value = λ p m. rw (ne-eqb ((p .0 * stateWords + 2) % stateWords) 0 (omega arith)) at (state-word p m 2 (omega arith));
     interrupts = λ i h m. rw (pe-word i, interrupt-word i m 1 (omega arith), interrupt-word i m 2 (omega arith), interrupt-word i m 3 (omega arith));
   }
 
