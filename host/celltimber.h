@@ -205,7 +205,7 @@ size_t celltimber_run(
     const uint64_t *requests, size_t requests_length,
     uint64_t *answers, size_t answers_length);
 
-/* ---- libgroups.a: nothing is written. A group is a bit vector of four words, as a peer vector is; other words of it are nobody's ---- */
+/* ---- libgroups.a: only celltimber_covers writes. A group is a bit vector of four words, as a peer vector is; other words of it are nobody's ---- */
 
 /*
  * The number of the PE that the request belongs to; CELLTIMBER_NOBODY where there is none, where a table is too short to say it, for words that name no
@@ -236,14 +236,18 @@ uint64_t celltimber_closed(
     const uint64_t *group, size_t group_length);
 
 /*
- * 1 if every memory word that a walk of a member can read has a mark, else 0. Bit k of marks[j] is the mark of memory word j with k levels below it. The
- * caller makes the marks, and this tells whether one is missing; a mark too many only makes celltimber_seen tell one word more as the group's.
+ * Marks exactly the memory words that a walk of a member below N reads for some address of the DMA class: marks[j] is not 0 if memory word j is one, and is 0
+ * if not. Gives 1; or 0 where N is above its limit, or where marks, tables or under has not the length of memory: marks is then as it was. The words of tables
+ * and under are room to work in, and are overwritten.
  */
 uint64_t celltimber_covers(
+    uint64_t pes,
     const uint64_t *entries, size_t entries_length,
     const uint64_t *memory, size_t memory_length,
-    const uint64_t *marks, size_t marks_length,
-    const uint64_t *group, size_t group_length);
+    const uint64_t *group, size_t group_length,
+    uint64_t *marks, size_t marks_length,
+    uint64_t *tables, size_t tables_length,
+    uint64_t *under, size_t under_length);
 
 /*
  * 1 if word `index` of a table is public or the group's, else 0. The table is a number of enum celltimber_table; of another number it is 1. A memory word is

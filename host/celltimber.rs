@@ -251,14 +251,19 @@ extern "C" {
         group_length: usize,
     ) -> u64;
     fn celltimber_covers(
+        pes: u64,
         entries: *const u64,
         entries_length: usize,
         memory: *const u64,
         memory_length: usize,
-        marks: *const u64,
-        marks_length: usize,
         group: *const u64,
         group_length: usize,
+        marks: *mut u64,
+        marks_length: usize,
+        tables: *mut u64,
+        tables_length: usize,
+        under: *mut u64,
+        under_length: usize,
     ) -> u64;
     fn celltimber_seen(
         interrupts: *const u64,
@@ -330,21 +335,41 @@ pub fn closed(pes: u64, peers: &[u64], group: &[u64]) -> bool {
     })
 }
 
-/// Whether every memory word that a walk of a member can read has a mark: bit k of a mark is for
-/// k levels below the word.
-pub fn covers(entries: &[u64], memory: &[u64], marks: &[u64], group: &[u64]) -> bool {
+/// Marks exactly the memory words that a walk of a member reads: a mark is not 0. `tables` and `under`
+/// are overwritten. False, with `marks` as they were, where N is above its limit or one of the three
+/// has not the length of memory.
+pub fn covers(
+    pes: u64,
+    entries: &[u64],
+    memory: &[u64],
+    group: &[u64],
+    marks: &mut [u64],
+    tables: &mut [u64],
+    under: &mut [u64],
+) -> bool {
     holds(unsafe {
         celltimber_covers(
+            pes,
             entries.as_ptr(),
             entries.len(),
             memory.as_ptr(),
             memory.len(),
-            marks.as_ptr(),
-            marks.len(),
             group.as_ptr(),
             group.len(),
+            marks.as_mut_ptr(),
+            marks.len(),
+            tables.as_mut_ptr(),
+            tables.len(),
+            under.as_mut_ptr(),
+            under.len(),
         )
     })
+}
+
+/// The marks of `covers` in a list of their own; `None` where N is above its limit.
+pub fn marks(pes: u64, entries: &[u64], memory: &[u64], group: &[u64]) -> Option<Vec<u64>> {
+    let [mut marks, mut tables, mut under] = [(); 3].map(|()| vec![0; memory.len()]);
+    covers(pes, entries, memory, group, &mut marks, &mut tables, &mut under).then_some(marks)
 }
 
 /// Whether word `index` of a table is public or the group's.

@@ -342,25 +342,156 @@ fn closed_on_seeded_tables() {
     assert!(counts.iter().all(|&count| count >= 100), "{counts:?}");
 }
 
+/// The memory words that have a mark.
+fn marked(n: u64, entries: &[u64], memory: &[u64], group: &[u64]) -> Vec<usize> {
+    let marks = marks(n, entries, memory, group).expect("N is within its limit");
+    (0..memory.len()).filter(|&j| marks[j] != 0).collect()
+}
+
 #[test]
 fn covers_members_that_have_entries() {
     // PE 2 has a table of 512 words at word 512, with no level below.
     let mut entries = [0; 32];
     entries[16..20].copy_from_slice(&[0x1000, 1, 1, 1]);
-    let memory = [0; 1_024];
-    let mut marks = [0; 1_024];
-    marks[512..].fill(1);
+    let memory = [0; 1_100];
     let group = bits(&[2, 4, 200, 255]);
-    assert!(covers(&entries, &memory, &marks, &group));
-    for missed in [512, 700, 1_023] {
-        marks[missed] = 2;
-        assert!(!covers(&entries, &memory, &marks, &group), "word {missed}");
-        marks[missed] = 1;
+    let table = (512..1_024).collect::<Vec<_>>();
+    assert_eq!(marked(4, &entries, &memory, &group), table);
+    assert_eq!(marked(256, &entries, &memory, &group), table);
+    assert_eq!(marked(4, &entries, &memory[..700], &group), table[..188]);
+    // PEs of N and above, members without a record, or with one that the table does not hold.
+    assert_eq!(marked(2, &entries, &memory, &group), []);
+    assert_eq!(marked(4, &entries, &memory, &bits(&[0, 3, 4, 200, 255])), []);
+    assert_eq!(marked(4, &entries[..18], &memory, &group), []);
+    assert_eq!(marked(4, &entries, &[], &group), []);
+    // The same record, the second of its PE.
+    entries.copy_within(16..20, 12);
+    assert_eq!(marked(4, &entries, &memory, &bits(&[1])), table);
+}
+
+#[test]
+fn covers_only_with_room() {
+    let entries = [0, 1, 1, 1, 0, 0, 0, 0];
+    let (memory, group) = ([0; 600], bits(&[0]));
+    let call = |n, lengths: [usize; 3]| {
+        let [mut marks, mut tables, mut under] = lengths.map(|length| vec![7; length]);
+        (covers(n, &entries, &memory, &group, &mut marks, &mut tables, &mut under), marks)
+    };
+    for lengths in [[599, 600, 600], [601, 600, 600], [600, 0, 600], [600, 600, 601]] {
+        assert_eq!(call(1, lengths), (false, vec![7; lengths[0]]), "{lengths:?}");
     }
-    // Members without a record, or with one that the table does not hold.
-    assert!(covers(&entries, &memory, &[], &bits(&[0, 3, 4, 200, 255])));
-    assert!(covers(&entries[..18], &memory, &[], &group));
-    assert!(!covers(&entries, &memory, &marks[..1_023], &group));
+    for n in [257, (1 << 16) + 1, u64::MAX] {
+        assert_eq!(call(n, [600; 3]), (false, vec![7; 600]), "N is {n}");
+    }
+    for n in [1, 256] {
+        let (told, marks) = call(n, [600; 3]);
+        assert!(told && marks[..512].iter().all(|&mark| mark != 0) && marks[512..] == [0; 88]);
+    }
+}
+
+/// The words that walks by a record read, from a walk of each of its pages. A page of the first
+/// record whose addresses are all of the 32-bit MSI window is not walked.
+fn read_by(record: &[u64], second: bool, memory: &[u64], read: &mut [bool]) {
+    let [base, levels, table, page] = *record else { panic!("a record has four words") };
+    let bits = table + 8;
+    let inside = match page {
+        1 | 5 | 13 | 17 => page + 11,
+        _ => return,
+    };
+    let span = levels.saturating_mul(bits).saturating_add(inside);
+    if !(1..=31).contains(&table)
+        || !(1..=5).contains(&levels)
+        || base % (8 << bits) != 0
+        || span > 59
+    {
+        return;
+    }
+    for page in 0..1u64 << (levels * bits) {
+        let (first, last) = (page << inside, ((page + 1) << inside) - 1);
+        if !second && first >= 0xFFFF_0000 && last <= 0xFFFF_FFFF {
+            continue;
+        }
+        let mut table = base;
+        for below in (0..levels).rev() {
+            let word = (table / 8 + (page >> (bits * below)) % (1 << bits)) as usize;
+            let Some(&value) = memory.get(word) else { break };
+            read[word] = true;
+            table = value / 4_096 * 4_096;
+            if value % 4 == 0 || table % (8 << bits) != 0 {
+                break;
+            }
+        }
+    }
+}
+
+#[test]
+fn covers_what_walks_of_each_page_read() {
+    // How many words were marked, how many were not, and how many only for the MSI window.
+    let mut counts = [0; 3];
+    for seed in 0..100 {
+        let mut random = Random(seed);
+        let mut memory = vec![0; random.pick(&[512, 3_000, 4_096, 4_096])];
+        // Every other seed has one record, and no words that lead on but the next ones.
+        let alone = seed % 2 == 0;
+        let filled = if alone { 0 } else { 2 };
+        for word in memory.iter_mut() {
+            if random.percent(filled) {
+                *word = random.below(9) * 4_096 + random.below(4);
+            }
+        }
+        // The words that page 0xFFFF0 of 4 KiB and page 0xFFFF of 64 KiB have in an upper table.
+        for place in [0x3FF, 0x7FF, 0xBFF, 0x7F, 0x27F, 0x47F, 0x67F, 0x87F, 0xA7F] {
+            let leads = random.pick(&[2, 4, 6, 7]) * 4_096 + 3;
+            if place < memory.len() && random.percent(70) {
+                memory[place] = leads;
+            }
+        }
+        let mut entries = vec![0; 32];
+        for record in entries.chunks_mut(4) {
+            let base = random.below(4) * if random.percent(90) { 8_192 } else { 4_104 };
+            let code = random.pick(&[1, 1, 2]);
+            let levels = if random.percent(80) { 2 } else { 1 };
+            let page = random.pick(&[1, 1, 5, 5, 13, 17, 0, 2]);
+            record.copy_from_slice(&[base, levels, code, page]);
+        }
+        if alone {
+            let (code, page) = random.pick(&[(2, 1), (1, 5)]);
+            entries.fill(0);
+            entries[..4].copy_from_slice(&[random.below(3) * 8_192, 2, code, page]);
+        }
+        let n = random.between(3, 4);
+        let members = random.pick(&[&[0][..], &[0, 3]]);
+        let [mut read, mut all] = [(); 2].map(|()| vec![false; memory.len()]);
+        for pe in members.iter().copied().filter(|&pe| pe < n as usize) {
+            let (first, second) = entries[8 * pe..8 * pe + 8].split_at(4);
+            read_by(first, false, &memory, &mut read);
+            read_by(first, true, &memory, &mut all);
+            read_by(second, true, &memory, &mut read);
+            read_by(second, true, &memory, &mut all);
+        }
+        let words = (0..memory.len()).filter(|&j| read[j]).collect::<Vec<_>>();
+        assert_eq!(marked(n, &entries, &memory, &bits(members)), words, "seed {seed}");
+        counts[0] += words.len();
+        counts[1] += memory.len() - words.len();
+        counts[2] += all.iter().filter(|&&read| read).count() - words.len();
+    }
+    assert!(counts[..2].iter().all(|&count| count >= 1_000) && counts[2] >= 20, "{counts:?}");
+}
+
+#[test]
+fn covers_through_five_levels() {
+    // A table of 512 words that leads to itself, and at its index 1 to the next; 2^45 pages.
+    let mut memory = [0; 1_600];
+    memory[..512].fill(3);
+    memory[1] = 0x1003;
+    let entries = [0, 5, 1, 1, 0, 0, 0, 0];
+    assert_eq!(marked(1, &entries, &memory, &bits(&[0])), (0..1_024).collect::<Vec<_>>());
+    // A word of the next table leads on only if it is reached with a level below.
+    memory[600] = 0x2003;
+    let all = (0..1_536).collect::<Vec<_>>();
+    assert_eq!(marked(1, &entries, &memory, &bits(&[0])), all);
+    let two_levels = [0, 2, 1, 1, 0, 0, 0, 0];
+    assert_eq!(marked(1, &two_levels, &memory, &bits(&[0])), all[..1_024]);
 }
 
 #[test]

@@ -98,8 +98,12 @@ struct lent {
     uint64_t guard_10[GUARD];
     uint64_t marks[MEMORY];
     uint64_t guard_11[GUARD];
-    uint64_t group[CELLTIMBER_PEER_WORDS];
+    uint64_t tables[MEMORY];
     uint64_t guard_12[GUARD];
+    uint64_t under[MEMORY];
+    uint64_t guard_13[GUARD];
+    uint64_t group[CELLTIMBER_PEER_WORDS];
+    uint64_t guard_14[GUARD];
 };
 
 static struct lent lent, before;
@@ -120,7 +124,6 @@ static void put(uint64_t *to, uint64_t a, uint64_t b, uint64_t c, uint64_t d)
 static void start(void)
 {
     static const uint16_t requester_pes[REQUESTERS] = {0, 1, 2, 3, 9, 2, 1, 4};
-    size_t k;
     memset(&lent, 0x5A, sizeof lent);
     memcpy(lent.requesters, requester_pes, sizeof requester_pes);
     memset(lent.entries, 0, sizeof lent.entries);
@@ -130,7 +133,6 @@ static void start(void)
     memset(lent.windows, 0, sizeof lent.windows);
     memset(lent.segments, 0, sizeof lent.segments);
     memset(lent.state, 0, sizeof lent.state);
-    memset(lent.marks, 0, sizeof lent.marks);
     memset(lent.group, 0, sizeof lent.group);
     put(&lent.entries[1 * CELLTIMBER_ENTRY_WORDS], 0x2000, 2, 1, 1);
     put(&lent.entries[2 * CELLTIMBER_ENTRY_WORDS], 0x2000, 1, 1, 1);
@@ -149,11 +151,6 @@ static void start(void)
     lent.segments[3] = 1;
     lent.state[3 * CELLTIMBER_STATE_WORDS] = 0xF0;
     memcpy(lent.requests, requests, sizeof requests);
-    /* what walks of PEs 1 and 2 can read: the table at 0x2000 with one level below and with none, the one at 0x5000 with none */
-    for (k = 0; k < 512; k++) {
-        lent.marks[0x2000 / 8 + k] = 3;
-        lent.marks[0x5000 / 8 + k] = 1;
-    }
 }
 
 static void print(const char *name, const uint64_t *words, size_t count)
@@ -267,13 +264,13 @@ static void pointers(void)
     print("overlapping", lent.answers, CELLTIMBER_ANSWER_WORDS);
 }
 
-static uint64_t covers(void)
+static uint64_t covers(uint64_t pes, size_t marks_length)
 {
-    return celltimber_covers(lent.entries, LENGTH(lent.entries), lent.memory, LENGTH(lent.memory), lent.marks, LENGTH(lent.marks), lent.group,
-        LENGTH(lent.group));
+    return celltimber_covers(pes, lent.entries, LENGTH(lent.entries), lent.memory, LENGTH(lent.memory), lent.group, LENGTH(lent.group), lent.marks,
+        marks_length, lent.tables, LENGTH(lent.tables), lent.under, LENGTH(lent.under));
 }
 
-/* The functions of libgroups.a, which write nothing. */
+/* The functions of libgroups.a. celltimber_covers writes marks, tables and under, the others nothing. */
 static void groups(void)
 {
     static const uint64_t members[] = {0x6, 0xE, 0xC, 0x8, 0x2, 0x0};
@@ -290,10 +287,13 @@ static void groups(void)
     for (k = 0; k < LENGTH(members); k++) {
         lent.group[0] = members[k];
         printf("group %" PRIx64 ": closed %" PRIu64 ", covers %" PRIu64, members[k],
-            celltimber_closed(PES, lent.peers, LENGTH(lent.peers), lent.group, LENGTH(lent.group)), covers());
-        lent.marks[0x5018 / 8] = 2;
-        printf(", with a mark missing %" PRIu64 "\nmembers", covers());
-        lent.marks[0x5018 / 8] = 1;
+            celltimber_closed(PES, lent.peers, LENGTH(lent.peers), lent.group, LENGTH(lent.group)), covers(PES, LENGTH(lent.marks)));
+        printf(", too many PEs %" PRIu64 ", a mark short %" PRIu64 "\nmarks", covers(CELLTIMBER_MOST_PES + 1, LENGTH(lent.marks)),
+            covers(PES, LENGTH(lent.marks) - 1));
+        for (index = 0; index < LENGTH(lent.marks); index++)
+            if (lent.marks[index] != 0)
+                printf(" %zx", index);
+        printf("\nmembers");
         for (index = 0; index < LENGTH(numbers); index++)
             printf(" %" PRIu64, celltimber_member(lent.group, LENGTH(lent.group), numbers[index]));
         printf("\nseen");
@@ -310,6 +310,9 @@ static void groups(void)
         printf("\n");
     }
     lent.group[0] = 0;
+    memcpy(lent.marks, before.marks, sizeof lent.marks);
+    memcpy(lent.tables, before.tables, sizeof lent.tables);
+    memcpy(lent.under, before.under, sizeof lent.under);
     if (memcmp(&before, &lent, sizeof lent) != 0)
         fail("a function of libgroups.a has written a word");
     printf("no group: member %" PRIu64 ", closed %" PRIu64 "\n", celltimber_member(NULL, 0, 1),

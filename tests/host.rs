@@ -83,7 +83,6 @@ struct Tables {
     windows: Vec<u64>,
     segments: Vec<u16>,
     state: Vec<u64>,
-    marks: Vec<u64>,
     cut: [usize; 8],
 }
 
@@ -111,7 +110,6 @@ impl Tables {
             windows: vec![0; WINDOW_WORDS],
             segments: vec![0; SEGMENT_COUNT],
             state: vec![0; STATE_WORDS * PES],
-            marks: vec![0; MEMORY],
             cut: [0; 8],
         };
         put(&mut t.entries[ENTRY_WORDS..], &[0x2000, 2, 1, 1]);
@@ -130,8 +128,6 @@ impl Tables {
         put(&mut t.windows[M32_WORDS + M64_WORDS..], &[1 << 41, 1 << 28, 2, 9]);
         t.segments[3] = 1;
         t.state[3 * STATE_WORDS] = 0xF0;
-        t.marks[0x2000 / 8..0x3000 / 8].fill(3);
-        t.marks[0x5000 / 8..0x6000 / 8].fill(1);
         t
     }
 
@@ -238,20 +234,30 @@ fn groups() {
     }
     for members in [0x6, 0xE, 0xC, 0x8, 0x2, 0x0] {
         let group = [members, 0, 0, 0];
-        let told = |marks: &[u64]| u64::from(covers(&t.entries, &t.memory, marks, &group));
-        let all = told(&t.marks);
-        let mut fewer = t.marks.clone();
-        fewer[0x5018 / 8] = 2;
+        let [mut marks, mut tables, mut under] = [(); 3].map(|()| vec![0; t.memory.len()]);
+        let mut made = |pes: u64, length: usize| {
+            let marks = &mut marks[..length];
+            let made = covers(pes, &t.entries, &t.memory, &group, marks, &mut tables, &mut under);
+            u64::from(made)
+        };
+        let length = t.memory.len();
         println!(
-            "group {members:x}: closed {}, covers {all}, with a mark missing {}",
+            "group {members:x}: closed {}, covers {}, too many PEs {}, a mark short {}",
             u64::from(closed(PES as u64, &t.peers, &group)),
-            told(&fewer)
+            made(PES as u64, length),
+            made(MOST_PES + 1, length),
+            made(PES as u64, length - 1)
         );
+        print!("marks");
+        for (k, _) in marks.iter().enumerate().filter(|(_, &mark)| mark != 0) {
+            print!(" {k:x}");
+        }
+        println!();
         let numbers = [0, 1, 2, 3, 63, 64, 255, 256, NOBODY];
         print("members", &numbers.map(|number| u64::from(member(&group, number))));
         let words = [0, 1, 2, 3, 4, 5, 6, 7].map(|table| {
             let first: usize = if table == TABLE_MEMORY { 0x3E0 } else { 0 };
-            let bit = |k| u64::from(seen(&t.interrupts, &t.marks, &group, table, first + k)) << k;
+            let bit = |k| u64::from(seen(&t.interrupts, &marks, &group, table, first + k)) << k;
             (0..64).fold(0, |words, k| words | bit(k))
         });
         print("seen", &words);

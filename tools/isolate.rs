@@ -113,44 +113,6 @@ fn breach(tables: &Bridge, group: &Group) -> String {
     String::new()
 }
 
-/// Marks on the memory words that walks of members can read: bit k of mark j is for word j with
-/// k levels below it. `covers` tells whether they miss a word.
-fn marks(tables: &Bridge, group: &Group) -> Vec<u64> {
-    let memory = &tables.memory;
-    let mut marks = vec![0; memory.len()];
-    let entries = (0..tables.n)
-        .filter(|&pe| member(group, pe))
-        .flat_map(|pe| [8 * pe as usize, 8 * pe as usize + 4])
-        .map(|first| &tables.translation[first..first + 4])
-        .filter(|e| (1..=31).contains(&e[2]) && e[3] != 0 && (1..=5).contains(&e[1]))
-        .collect::<Vec<_>>();
-    loop {
-        let before = marks.clone();
-        for entry in &entries {
-            let (bits, top) = (entry[2] + 8, entry[1] - 1);
-            mark(&mut marks, bits, top, entry[0] / 8);
-            for below in 0..top {
-                for j in 0..memory.len() {
-                    if marks[j] >> (below + 1) & 1 == 1 && memory[j] % 4 != 0 {
-                        mark(&mut marks, bits, below, memory[j] / 4096 * 512);
-                    }
-                }
-            }
-        }
-        if marks == before {
-            return marks;
-        }
-    }
-}
-
-/// Marks the table of 2^bits words from word `first`, as far as it lies in memory.
-fn mark(marks: &mut [u64], bits: u64, below: u64, first: u64) {
-    let end = (first + (1 << bits)).min(marks.len() as u64);
-    for j in first.min(end)..end {
-        marks[j as usize] |= 1 << below;
-    }
-}
-
 const TABLES: [(Table, &str); 8] = [
     (Table::Requesters, "requesters"),
     (Table::Translation, "translation"),
@@ -291,10 +253,8 @@ fn compare(group_text: &str, names: [&str; 2]) -> Result<(String, bool), String>
     let public = |table, i| seen(&[], &NO_GROUP, table, i);
     same_words(&files, &TABLES, public)
         .map_err(|words| format!("the same words for what is public: {}", words))?;
-    let marks = marks(tables, &group);
-    if !covers(&tables.translation, &tables.memory, &marks, &group) {
-        stop("the marks of the group's table words miss one");
-    }
+    let marks = marks(tables.n, &tables.translation, &tables.memory, &group)
+        .unwrap_or_else(|| stop("the group's table words cannot be marked"));
     same_words(&files, &TABLES, |table, i| seen(&marks, &group, table, i))
         .map_err(|words| format!("the same words for what is the group's: {}", words))?;
     if !closed(tables.n, &tables.peers, &group) {

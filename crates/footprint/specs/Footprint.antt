@@ -1,22 +1,31 @@
--- Marks that miss a memory word which the walks of a group can read.
---     peMisses g l m t p  PE p is a member of group g, and a walk by one of its entries can read a word of memory m that has no mark in t;
---                         l are the translation entries
---     anyMisses g l m t   that holds of some PE. One of N or above misses nothing: entries of good length have no words of it
+-- Marks on the memory words that the walks of a group read for an address of the DMA class.
+--     peTurn g l m r p    r with the words that walks of PE p read in memory m, if it is a member of group g; l are the translation entries
+--     membersMarks a b g l m n w  the same of all PEs below n, on a list of w words with no mark; a and b are the lengths of the lists that are lent for it,
+--                                 and where they are not that of memory nothing is marked
+--     Exact g n l m t         THE DEFINITION OF EXACT MARKS: a word has a mark in t if some walk of a member reads it for an address of the DMA class,
+--                             and only then, in all tables with N = n and these entries
 -- Assumes nothing.
-use mathlib.Core.Bool.{Bool, true, false, cond}
+use mathlib.Core.Path.{_≡_}
+use mathlib.Core.Bool.{true, cond}
 use mathlib.Core.List.{List}
 use Prim.Native.Nat.{ℕ}
-use Rattle.marks.specs.Marks.{entryMisses}
-use Rattle.members.specs.Any.{any}
-use Rattle.members.specs.Member.{memberOf}
+use lib.Dec.{eqb}
+use lib.ListN.{length, replicate}
+use Rattle.kinds.specs.Turns.{turns}
+use Rattle.marks.specs.Marks.{anyMark, marksBy}
+use Rattle.members.specs.Member.{memberOf, group}
+use Rattle.profile.specs.Agree.{Reads}
 use Rattle.profile.specs.Entry.{entryIn}
-use Rattle.profile.specs.Tables.{mostPes}
+use Rattle.profile.specs.Tables.{Tables}
 
-unfoldable pub peMisses : (g entries memory marks : List ℕ) → ℕ → Bool
-peMisses g l m t p =
-    cond (memberOf g p)
-    (cond (entryMisses m t (entryIn l (record { 0 = p }) 0)) true (entryMisses m t (entryIn l (record { 0 = p }) 1)))
-    false
+unfoldable pub peTurn : (g entries memory : List ℕ) → List ℕ → ℕ → List ℕ
+peTurn g l m r p =
+    cond (memberOf g p) (marksBy m (entryIn l (record { 0 = p }) 1) 1 (marksBy m (entryIn l (record { 0 = p }) 0) 0 r)) r
 
-abbrev pub anyMisses : (g entries memory marks : List ℕ) → Bool
-anyMisses g l m t = any mostPes (peMisses g l m t)
+unfoldable pub membersMarks : (a b : ℕ) → (g entries memory : List ℕ) → (pes words : ℕ) → List ℕ
+membersMarks a b g l m n w =
+    cond (eqb a (length m)) (cond (eqb b (length m)) (turns (peTurn g l m) (replicate w 0) n) (replicate w 0)) (replicate w 0)
+
+pub record Exact (g : List ℕ) (n : ℕ) (l m t : List ℕ) : Type 0 where
+  pub needed : (f : Tables) → f .sizes .pes ≡ n → f .entries ≡ l → (k : ℕ) → Reads (group g) f m k → anyMark t k ≡ true
+  pub only : (f : Tables) → f .sizes .pes ≡ n → f .entries ≡ l → (k : ℕ) → anyMark t k ≡ true → Reads (group g) f m k

@@ -1,42 +1,104 @@
-// Whether marks of memory words miss a word that the walks of a group's members can read.
+// Marks on the memory words that the walks of a group's members read for an address of the DMA class.
 use addresses;
 use kinds::number::ByteAddress;
 use kinds::number::PeNumber;
 use marks;
 use members;
-use profile::limits::MOST_PES;
 ghost use mathlib.Core.Path.{_≡_};
-ghost use Rattle.footprint.specs.Footprint.{peMisses, anyMisses};
+ghost use lib.ListN.{length};
+ghost use Rattle.kinds.specs.Turns.{turns};
+ghost use Rattle.marks.specs.Marks.{marksBy};
+ghost use Rattle.profile.specs.Entry.{entryIn, half};
+ghost use Rattle.footprint.specs.Footprint.{peTurn, membersMarks};
 
 // An address that picks the second record of a PE.
 const SECOND: u64 = 0x800_0000_0000_0000;
 
-// PE `pe` is a member, and a walk of it can read a word that has no mark.
-fn pe_misses(group: &[u64], entries: &[u64], memory: &[u64], marks: &[u64], pe: u16) -> bool
-    ensures { λ r. ⌜ r ≡ peMisses (now (group .entry)) (now (entries .entry)) (now (memory .entry)) (now (marks .entry)) pe ⌝ }
+// Marks the words that walks by record `number` of PE `pe` read; `address` picks it.
+fn mark_record(
+    entries: &[u64],
+    memory: &[u64],
+    marks: &mut [u64],
+    tables: &mut [u64],
+    under: &mut [u64],
+    pe: u16,
+    address: ByteAddress,
+    number: u64,
+)
+    requires { ⌜ (length (now tables) ≡ length (now memory)) × (length (now under) ≡ length (now memory)) ⌝ }
+    ensures { λ _. ⌜ now (marks .exit) ≡ marksBy (now (memory .entry)) (entryIn (now (entries .entry)) (record { 0 = pe }) (half address)) number (now (marks .entry)) ⌝ }
 {
-    if members::is_member(group, pe as u64) {
-        let first = addresses::entry_of(entries, PeNumber(pe), ByteAddress(0));
-        if marks::entry_misses(memory, marks, first) {
-            return true;
-        }
-        let second = addresses::entry_of(entries, PeNumber(pe), ByteAddress(SECOND));
-        return marks::entry_misses(memory, marks, second);
-    }
-    false
+    let entry = addresses::entry_of(entries, PeNumber(pe), address);
+    marks::mark_entry(memory, entry, number, marks, tables, under);
 }
 
-// A walk of a member can read a word that has no mark.
-pub fn any_misses(group: &[u64], entries: &[u64], memory: &[u64], marks: &[u64]) -> bool
-    ensures { λ r. ⌜ r ≡ anyMisses (now (group .entry)) (now (entries .entry)) (now (memory .entry)) (now (marks .entry)) ⌝ }
+// Marks the words that walks of PE `pe` read, if it is a member.
+fn mark_pe(
+    group: &[u64],
+    entries: &[u64],
+    memory: &[u64],
+    marks: &mut [u64],
+    tables: &mut [u64],
+    under: &mut [u64],
+    pe: u16,
+)
+    requires { ⌜ (length (now tables) ≡ length (now memory)) × (length (now under) ≡ length (now memory)) ⌝ }
+    ensures { λ _. ⌜ now (marks .exit) ≡ peTurn (now (group .entry)) (now (entries .entry)) (now (memory .entry)) (now (marks .entry)) pe ⌝ }
 {
-    let mut left = MOST_PES as u16;
-    while 0 < left {
-        let k = left - 1;
-        if pe_misses(group, entries, memory, marks, k) {
-            return true;
-        }
-        left -= 1;
+    if members::is_member(group, pe as u64) {
+        mark_record(entries, memory, marks, tables, under, pe, ByteAddress(0), 0);
+        mark_record(
+            entries,
+            memory,
+            marks,
+            tables,
+            under,
+            pe,
+            ByteAddress(SECOND),
+            1,
+        );
     }
-    false
+}
+
+// Marks the words that walks of members among the first `pes` PEs read.
+fn mark_pes(
+    pes: u16,
+    group: &[u64],
+    entries: &[u64],
+    memory: &[u64],
+    marks: &mut [u64],
+    tables: &mut [u64],
+    under: &mut [u64],
+)
+    requires { ⌜ (length (now tables) ≡ length (now memory)) × (length (now under) ≡ length (now memory)) ⌝ }
+    ensures { λ _. ⌜ now (marks .exit) ≡ turns (peTurn (now (group .entry)) (now (entries .entry)) (now (memory .entry))) (now (marks .entry)) pes ⌝ }
+{
+    let mut pe: u16 = 0;
+    while pe < pes {
+        mark_pe(group, entries, memory, marks, tables, under, pe);
+        pe += 1;
+    }
+}
+
+// Marks the words that walks of members read, and no others. `tables` and `under` are overwritten; nothing is marked where they have not the length of
+// memory.
+pub fn mark_members(
+    pes: u16,
+    group: &[u64],
+    entries: &[u64],
+    memory: &[u64],
+    marks: &mut [u64],
+    tables: &mut [u64],
+    under: &mut [u64],
+)
+    ensures { λ _. ⌜ now (marks .exit) ≡ membersMarks (length (now (tables .entry))) (length (now (under .entry))) (now (group .entry)) (now (entries .entry)) (now (memory .entry)) pes (length (now (marks .entry))) ⌝ }
+{
+    marks::lists::clear(marks);
+    if tables.len() == memory.len() {
+        if under.len() == memory.len() {
+            mark_pes(pes, group, entries, memory, marks, tables, under);
+            return;
+        }
+        return;
+    }
 }

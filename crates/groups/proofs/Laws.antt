@@ -1,9 +1,11 @@
 -- What the functions of `groups` are proved from, a law to a `return` or a turn. Assumes nothing.
-use mathlib.Core.Path.{_≡_}
-use mathlib.Core.Bool.{Bool, true, false, not}
+use mathlib.Core.Path.{_≡_, refl}
+use mathlib.Core.Bool.{Bool, true, false}
 use mathlib.Core.List.{List}
 use Prim.Native.Nat.{ℕ, _-_, _*_, _/_, _%_, _<_, _≤_}
+use lib.ListN.{length}
 use borrow.Author.Tests.{lt-leb, le-leb, eq-eqb, ne-eqb}
+use Rattle.kinds.specs.Tests.{clash}
 use Rattle.kinds.specs.Words.{noPe, peAt, bitOf}
 use Rattle.kinds.specs.declared.answer.Reason.{Reason}
 use Rattle.kinds.specs.declared.lookup.Owner.{Owner}
@@ -16,7 +18,9 @@ use Rattle.profile.specs.Owner.{ownerIn}
 use Rattle.profile.specs.Tables.{mostPes, interruptWords}
 use Rattle.members.specs.Member.{memberOf}
 use Rattle.groups.specs.Group.{flag, ownerNumber, ownerNumberIn, memberListed, listsMember, outsiderLists, anyOutsiderLists, closed}
-use Rattle.footprint.specs.Footprint.{anyMisses}
+use Rattle.footprint.specs.Footprint.{membersMarks}
+use Rattle.footprint.specs.FootprintLaws.{marks-exact}
+use Rattle.groups.specs.Covers.{coverable, Covered}
 use Rattle.groups.specs.Seen.{interruptSeen}
 
 pub flag-set : {b : Bool} → b ≡ true → 1 ≡ flag b
@@ -82,14 +86,43 @@ pub closed-unknown : (n : ℕ) (g l : List ℕ) → mostPes < n → 0 ≡ flag (
 unfolding closed flag
 closed-unknown n g l h = rw (lt-leb _ _ h)
 
-module _ (g l m t : List ℕ) {b : Bool} (asked : b ≡ anyMisses g l m t) where
-  pub covers-not : b ≡ true → 0 ≡ flag (not (anyMisses g l m t))
-  unfolding flag
-  covers-not o = rw (← asked, o)
+-- ---- marks
 
-  pub covers-all : b ≡ false → 1 ≡ flag (not (anyMisses g l m t))
+module _ (g : List ℕ) (n : ℕ) (l m r t u : List ℕ) where
+  not-covered : coverable n r t u m ≡ false → Covered g n l m r t u 0 r
   unfolding flag
-  covers-all o = rw (← asked, o)
+  not-covered o = record {
+    tells = rw o;
+    exact = λ p. clash p o;
+    kept = λ p. refl;
+  }
+
+  pub covers-past : mostPes < n → Covered g n l m r t u 0 r
+  covers-past h = not-covered (unfold coverable in rw (lt-leb n mostPes h))
+
+  module _ (h : n ≤ mostPes) where
+    pub covers-marks : (length r ≡ length m → ⊥) → Covered g n l m r t u 0 r
+    covers-marks i = not-covered (unfold coverable in rw (le-leb n mostPes h, ne-eqb (length r) (length m) i))
+
+    module _ (i : length r ≡ length m) where
+      pub covers-tables : (length t ≡ length m → ⊥) → Covered g n l m r t u 0 r
+      covers-tables j = not-covered (unfold coverable in rw (le-leb n mostPes h, eq-eqb (length r) (length m) i, ne-eqb (length t) (length m) j))
+
+      module _ (j : length t ≡ length m) where
+        pub covers-under : (length u ≡ length m → ⊥) → Covered g n l m r t u 0 r
+        covers-under k =
+            not-covered (unfold coverable in rw (le-leb n mostPes h, eq-eqb (length r) (length m) i, eq-eqb (length t) (length m) j, ne-eqb (length u) (length m) k))
+
+        pub covers-all : {s : List ℕ} → length u ≡ length m → s ≡ membersMarks (length t) (length u) g l m n (length r) → Covered g n l m r t u 1 s
+        unfolding flag
+        covers-all k e =
+            let fit : coverable n r t u m ≡ true =
+            unfold coverable in rw (le-leb n mostPes h, eq-eqb (length r) (length m) i, eq-eqb (length t) (length m) j, eq-eqb (length u) (length m) k) in
+            record {
+              tells = rw fit;
+              exact = λ p. rw (e, i, j, k) (marks-exact g l m n);
+              kept = λ p. clash fit p;
+            }
 
 -- ---- words that are public or the group's
 

@@ -1,10 +1,10 @@
 -- Two bridges that agree in the words that are public or the group's meet the premises of demand 3, and a run of each answers the group alike and leaves it the same.
---     viewed              with marks that miss nothing, `SeenAlike` gives `View`: what demand 3 asks of two bridges
---     isolated-run        THE STATEMENT: what `closed`, `anyMisses` and `seen` test, and own requests that are equal, give equal answers and leave the
+--     viewed              with exact marks, `SeenAlike` gives `View`: what demand 3 asks of two bridges
+--     isolated-run        THE STATEMENT: what `closed`, `Exact` and `seen` tell, and own requests that are equal, give equal answers and leave the
 --                         group's stop bits, error records and interrupt records equal
 -- Assumes nothing.
 use mathlib.Core.Path.{_≡_, refl, sym, ap, _∙_}
-use mathlib.Core.Bool.{true, false}
+use mathlib.Core.Bool.{true}
 use mathlib.Core.List.{List}
 use Prim.Native.Nat.{ℕ, _+_, _*_, _/_, _%_, _<_}
 use native.Mathlib.Nat.{add-zero}
@@ -28,8 +28,7 @@ use Rattle.runs.specs.RunIsolation.{ownRequests, ownAnswers, run-isolation}
 use Rattle.members.specs.Member.{group}
 use Rattle.groups.specs.Group.{closed}
 use Rattle.groups.specs.GroupLaws.{closed-is}
-use Rattle.footprint.specs.Footprint.{anyMisses}
-use Rattle.footprint.specs.FootprintLaws.{reads-marked}
+use Rattle.footprint.specs.Footprint.{Exact}
 use Rattle.groups.specs.SeenAlike.{SeenAlike}
 use Rattle.groups.specs.Seen.{interruptSeen, seen}
 
@@ -96,22 +95,22 @@ module _ (g t : List ℕ) (a b : Bridge) (s : SeenAlike g t a b) where
     entry-word p m (h * recordWords + 3) (omega arith),
   )
 
-  pub viewed : anyMisses g (a .tables .entries) (a .memory) t ≡ false → View (group g) a b
+  pub viewed : Exact g (a .tables .sizes .pes) (a .tables .entries) (a .memory) t → View (group g) a b
   unfolding seen
-  viewed none = record {
+  viewed marks = record {
     public = public-same;
     written = written-same;
     entries = entries-same;
-    table-words = λ k r. s .words 2 k (reads-marked g t (a .tables) (a .memory) none k r);
+    table-words = λ k r. s .words 2 k (marks .needed (a .tables) refl refl k r);
   }
 
 pub isolated-run : (g t : List ℕ) (a b : Bridge)
     -- what `celltimber_closed`, `celltimber_covers` and `celltimber_seen` tell
-    → closed (a .tables .sizes .pes) g (a .tables .peers) ≡ true → anyMisses g (a .tables .entries) (a .memory) t ≡ false → SeenAlike g t a b
+    → closed (a .tables .sizes .pes) g (a .tables .peers) ≡ true → Exact g (a .tables .sizes .pes) (a .tables .entries) (a .memory) t → SeenAlike g t a b
     -- request words w on the first bridge and v on the second, with answer words l and k
     → (w v l k : List ℕ) → ownRequests (group g) a w (served w l) ≡ ownRequests (group g) b v (served v k)
     → (ownAnswers (group g) a w (ranTo (a .tables) (a .memory) w (a .live) l (served w l) .answers) (served w l)
     ≡ ownAnswers (group g) b v (ranTo (b .tables) (b .memory) v (b .live) k (served v k) .answers) (served v k))
     × Written (group g) (a .tables .sizes .interrupts) (ranTo (a .tables) (a .memory) w (a .live) l (served w l) .live)
     (ranTo (b .tables) (b .memory) v (b .live) k (served v k) .live)
-isolated-run g t a b c none s w v l k e = run-isolation .isolated (group g) a b (closed-is g (a .tables) c) (viewed g t a b s none) w v l k e
+isolated-run g t a b c marks s w v l k e = run-isolation .isolated (group g) a b (closed-is g (a .tables) c) (viewed g t a b s marks) w v l k e

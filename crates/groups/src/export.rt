@@ -9,11 +9,10 @@ use members;
 use owners;
 use profile::limits::MOST_PES;
 ghost use mathlib.Core.Path.{_≡_};
-ghost use mathlib.Core.Bool.{not};
 ghost use Rattle.layout.specs.Layout.{decoded};
 ghost use Rattle.groups.specs.Group.{flag, ownerNumber, ownerNumberIn, closed};
 ghost use Rattle.members.specs.Member.{memberOf};
-ghost use Rattle.footprint.specs.Footprint.{anyMisses};
+ghost use Rattle.groups.specs.Covers.{Covered};
 ghost use Rattle.groups.specs.Seen.{seen};
 
 fn flag(test: bool) -> u64
@@ -90,20 +89,34 @@ pub extern "C" fn celltimber_closed(pes: u64, peers: &[u64], group: &[u64]) -> u
     1
 }
 
-// 1 if every memory word that a walk of a member can read has a mark, else 0.
+// Marks exactly the memory words that a walk of a member below N reads for some address of the DMA class: each other word of `marks` becomes 0. `tables` and
+// `under` are overwritten. 1, or 0 where N is above its limit or one of the three has not the length of memory; `marks` is then as it was.
 #[no_mangle]
 pub extern "C" fn celltimber_covers(
+    pes: u64,
     entries: &[u64],
     memory: &[u64],
-    marks: &[u64],
     group: &[u64],
+    marks: &mut [u64],
+    tables: &mut [u64],
+    under: &mut [u64],
 ) -> u64
-    ensures { λ r. ⌜ r ≡ flag (not (anyMisses (now (group .entry)) (now (entries .entry)) (now (memory .entry)) (now (marks .entry)))) ⌝ }
+    ensures { λ r. ⌜ Covered (now (group .entry)) pes (now (entries .entry)) (now (memory .entry)) (now (marks .entry)) (now (tables .entry)) (now (under .entry)) r (now (marks .exit)) ⌝ }
 {
-    if footprint::any_misses(group, entries, memory, marks) {
+    if MOST_PES < pes {
         return 0;
     }
-    1
+    if marks.len() == memory.len() {
+        if tables.len() == memory.len() {
+            if under.len() == memory.len() {
+                footprint::mark_members(pes as u16, group, entries, memory, marks, tables, under);
+                return 1;
+            }
+            return 0;
+        }
+        return 0;
+    }
+    0
 }
 
 // 1 if word `index` of a table is public or the group's, else 0.

@@ -1,2 +1,7 @@
 pub mod Marks
+pub mod PutLaws
+pub mod TableLaws
 pub mod MarksLaws
+pub mod ReachLaws
+pub mod GapLaws
+pub mod EntryLaws

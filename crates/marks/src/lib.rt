@@ -1,139 +1,32 @@
-// Whether marks of memory words miss a word that walks by an entry can read. Bit k of mark j says that memory word j is read with k levels below it.
+// Marks on the memory words that walks by an entry read for an address of the DMA class, found level by level.
+mod levels;
+pub mod lists;
+
 use kinds::record::TranslationEntry;
+use page_tables::Shape;
+use page_tables::shape_of;
 use profile::limits::CODE_BITS;
-use profile::limits::MOST_LEVELS;
-use profile::limits::MOST_TABLE_CODE;
 use words;
 ghost use mathlib.Core.Path.{_≡_};
-ghost use Prim.Native.Nat.{_<_, _≤_};
-ghost use Rattle.profile.specs.Entry.{mostLevels};
-ghost use Rattle.marks.specs.Marks.{markAt, inTable, misses, tableMisses, wordMisses, levelMisses, levelsMiss, hasPages, entryMisses, anyMark};
+ghost use Prim.Native.Nat.{_*_, _<_, _≤_};
+ghost use lib.ListN.{length};
+ghost use Rattle.profile.specs.Entry.{paged, indexBits, mostTableCode, offsetBits};
+ghost use Rattle.marks.specs.Marks.{anyMark, gapAt, gapOf, marksBy, marksWith};
 
-fn is_marked(marks: &[u64], below: u64, j: usize) -> bool
-    requires { ⌜ below < 64 ⌝ }
-    ensures { λ r. ⌜ r ≡ markAt (now (marks .entry)) below j ⌝ }
-{
-    let bits = words::word(marks, j);
-    (bits >> below) % 2 == 1
-}
+// The first page of the 32-bit MSI window where pages have 4 KiB, and the pages that it has.
+const MSI_PAGE_4K: u64 = 0xFFFF0;
 
-// Memory word j is in the table of 2^bits words that starts at word `first`.
-fn in_table(bits: u64, first: u64, j: u64) -> bool
-    requires { ⌜ bits < 64 ⌝ }
-    ensures { λ r. ⌜ r ≡ inTable bits first j ⌝ }
-{
-    if first <= j {
-        return (j - first) >> bits == 0;
-    }
-    false
-}
+const MSI_PAGES_4K: u64 = 16;
 
-fn misses(marks: &[u64], bits: u64, below: u64, first: u64, j: usize) -> bool
-    requires { ⌜ (bits < 64) × (below < 64) ⌝ }
-    ensures { λ r. ⌜ r ≡ misses (now (marks .entry)) bits below first j ⌝ }
-{
-    if in_table(bits, first, j as u64) {
-        if is_marked(marks, below, j) {
-            return false;
-        }
-        return true;
-    }
-    false
-}
+// The same of 64 KiB.
+const MSI_PAGE_64K: u64 = 0xFFFF;
 
-// A word of the table that lies in a memory of `count` words has no mark.
-fn table_misses(marks: &[u64], count: usize, bits: u64, below: u64, first: u64) -> bool
-    requires { ⌜ (bits < 64) × (below < 64) ⌝ }
-    ensures { λ r. ⌜ r ≡ tableMisses (now (marks .entry)) count bits below first ⌝ }
-{
-    let mut left: usize = count;
-    while 0 < left {
-        let j = left - 1;
-        if misses(marks, bits, below, first, j) {
-            return true;
-        }
-        left -= 1;
-    }
-    false
-}
+const MSI_PAGES_64K: u64 = 1;
 
-// Word j is marked above `below` and leads to a table with a word that has no mark.
-fn word_misses(memory: &[u64], marks: &[u64], bits: u64, below: u64, j: usize) -> bool
-    requires { ⌜ (bits < 64) × (below < 63) ⌝ }
-    ensures { λ r. ⌜ r ≡ wordMisses (now (memory .entry)) (now (marks .entry)) bits below j ⌝ }
-{
-    if is_marked(marks, below + 1, j) {
-        let word = words::word(memory, j);
-        if word % 4 == 0 {
-            return false;
-        }
-        return table_misses(marks, memory.len(), bits, below, word / 4096 * 512);
-    }
-    false
-}
-
-fn level_misses(memory: &[u64], marks: &[u64], bits: u64, below: u64) -> bool
-    requires { ⌜ (bits < 64) × (below < 63) ⌝ }
-    ensures { λ r. ⌜ r ≡ levelMisses (now (memory .entry)) (now (marks .entry)) bits below ⌝ }
-{
-    let mut left: usize = memory.len();
-    while 0 < left {
-        let j = left - 1;
-        if word_misses(memory, marks, bits, below, j) {
-            return true;
-        }
-        left -= 1;
-    }
-    false
-}
-
-fn levels_miss(memory: &[u64], marks: &[u64], bits: u64, levels: u64) -> bool
-    requires { ⌜ (bits < 64) × (levels ≤ mostLevels) ⌝ }
-    ensures { λ r. ⌜ r ≡ levelsMiss (now (memory .entry)) (now (marks .entry)) bits levels ⌝ }
-{
-    let mut left: u64 = levels;
-    while 0 < left {
-        let k = left - 1;
-        if level_misses(memory, marks, bits, k) {
-            return true;
-        }
-        left -= 1;
-    }
-    false
-}
-
-// The entry can have a page table: its codes and levels are within their ranges.
-fn has_pages(entry: TranslationEntry) -> bool
-    ensures { λ r. ⌜ r ≡ hasPages entry ⌝ }
-{
-    if entry.table < 1 {
-        return false;
-    }
-    if MOST_TABLE_CODE < entry.table {
-        return false;
-    }
-    if entry.page == 0 {
-        return false;
-    }
-    if entry.levels < 1 {
-        return false;
-    }
-    entry.levels <= MOST_LEVELS
-}
-
-// A word that a walk by the entry can read has no mark.
-pub fn entry_misses(memory: &[u64], marks: &[u64], entry: TranslationEntry) -> bool
-    ensures { λ r. ⌜ r ≡ entryMisses (now (memory .entry)) (now (marks .entry)) entry ⌝ }
-{
-    if has_pages(entry) {
-        let bits = entry.table + CODE_BITS;
-        let below = entry.levels - 1;
-        if table_misses(marks, memory.len(), bits, below, entry.base / 8) {
-            return true;
-        }
-        return levels_miss(memory, marks, bits, below);
-    }
-    false
+// Pages that are not walked: the first, and how many.
+pub struct Gap {
+    pub page: u64,
+    pub count: u64,
 }
 
 // Memory word `index` has a mark.
@@ -145,4 +38,100 @@ pub fn has_mark(marks: &[u64], index: usize) -> bool
         return false;
     }
     true
+}
+
+// The entry is good and has pages.
+fn has_pages(entry: TranslationEntry) -> bool
+    ensures { λ r. ⌜ r ≡ paged entry ⌝ }
+{
+    if entry.table < 1 {
+        return false;
+    }
+    if entry.page == 0 {
+        return false;
+    }
+    let Shape::Pages { size: _, span: _ } = shape_of(entry) else {
+        return false;
+    };
+    true
+}
+
+// `count` pages from `page`, where the table has that page.
+fn gap_at(entry: TranslationEntry, page: u64, count: u64) -> Gap
+    requires { ⌜ (entry .table ≤ mostTableCode) × (indexBits entry * entry .levels ≤ offsetBits) ⌝ }
+    ensures { λ r. ⌜ r ≡ gapAt entry page count ⌝ }
+{
+    let shift = (entry.table + CODE_BITS) * entry.levels;
+    if page >> shift == 0 {
+        return Gap { page, count };
+    }
+    Gap { page: 0, count: 0 }
+}
+
+// The pages of a record that are not walked, since their addresses are of the 32-bit MSI window. A page of 16 MiB or more has other addresses too.
+fn gap_of(entry: TranslationEntry, half: u64) -> Gap
+    requires { ⌜ (entry .table ≤ mostTableCode) × (indexBits entry * entry .levels ≤ offsetBits) ⌝ }
+    ensures { λ r. ⌜ r ≡ gapOf entry half ⌝ }
+{
+    if half == 0 {
+        if entry.page == 1 {
+            return gap_at(entry, MSI_PAGE_4K, MSI_PAGES_4K);
+        }
+        if entry.page == 5 {
+            return gap_at(entry, MSI_PAGE_64K, MSI_PAGES_64K);
+        }
+        return Gap { page: 0, count: 0 };
+    }
+    Gap { page: 0, count: 0 }
+}
+
+// Marks the words that walks by the entry, which is the record `half` of its PE, read. `tables` and `under` are overwritten.
+fn mark_pages(
+    memory: &[u64],
+    entry: TranslationEntry,
+    half: u64,
+    marks: &mut [u64],
+    tables: &mut [u64],
+    under: &mut [u64],
+)
+    requires { ⌜ (length (now tables) ≡ length (now memory)) × (length (now under) ≡ length (now memory)) ⌝ }
+    ensures { λ _. ⌜ now (marks .exit) ≡ marksBy (now (memory .entry)) entry half (now (marks .entry)) ⌝ }
+{
+    if has_pages(entry) {
+        let gap = gap_of(entry, half);
+        let bits = entry.table + CODE_BITS;
+        let below = entry.levels - 1;
+        let first = (entry.base / 8) as usize;
+        levels::mark_levels(
+            memory,
+            marks,
+            tables,
+            under,
+            bits,
+            gap.page,
+            gap.count,
+            below,
+            first,
+        );
+    }
+}
+
+// The same; nothing is marked where `tables` and `under` have not the length of memory.
+pub fn mark_entry(
+    memory: &[u64],
+    entry: TranslationEntry,
+    half: u64,
+    marks: &mut [u64],
+    tables: &mut [u64],
+    under: &mut [u64],
+)
+    ensures { λ _. ⌜ now (marks .exit) ≡ marksWith (length (now (tables .entry))) (length (now (under .entry))) (now (memory .entry)) entry half (now (marks .entry)) ⌝ }
+{
+    if tables.len() == memory.len() {
+        if under.len() == memory.len() {
+            mark_pages(memory, entry, half, marks, tables, under);
+            return;
+        }
+        return;
+    }
 }

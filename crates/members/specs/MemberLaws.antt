@@ -1,6 +1,6 @@
 -- What membership says of a number.
 --     member-below        a member is below 256
---     not-true, not-false the test behind a negation
+--     not-true            the test behind a negation
 -- Assumes nothing.
 use mathlib.Core.Path.{_≡_, refl, sym}
 use mathlib.Core.Bool.{Bool, true, false, not}
@@ -19,7 +19,3 @@ member-below g n h = by-cases (ltb n mostPes) (λ o. ltb-true n mostPes o) (λ o
 pub not-true : (b : Bool) → not b ≡ true → b ≡ false
 not-true true e = sym e
 not-true false e = refl
-
-pub not-false : (b : Bool) → not b ≡ false → b ≡ true
-not-false true e = refl
-not-false false e = sym e

@@ -1,30 +1,31 @@
 -- `marks::has_pages` meets its contract. Assumes nothing.
-use Rattle.marks.specs.Marks.{hasPages}
-use mathlib.Core.Bool.{and-true}
-use Rattle.profile.specs.Entry.{tableGood}
-use Rattle.kinds.specs.Tests.{tests}
+use Rattle.marks.proofs.Laws as laws
+use borrow.Author.Needs.{needs}
 use Rattle.marks.proofs.has_pages.Statement.{statement}
 use Rattle.marks.proofs.has_pages.Tie as tie
 
 returns : tie.Need-returns
-unfolding hasPages tableGood
-returns c = search tests
+returns c = search laws.no-table
 
 returns-2 : tie.Need-returns-2
-unfolding hasPages tableGood
-returns-2 c = search tests
+returns-2 c = search laws.no-pages
+
+shape-of-requires : tie.Need-shape-of-requires
+shape-of-requires c κs = search needs
+
+enum-told : tie.Need-enum-told
+enum-told c = search needs
+
+enum-told-2 : tie.Need-enum-told-2
+enum-told-2 c = search needs
 
 returns-3 : tie.Need-returns-3
-unfolding hasPages tableGood
-returns-3 c = search tests
+returns-3 c = search laws.bad-pages
 
 returns-4 : tie.Need-returns-4
-unfolding hasPages tableGood
-returns-4 c = search tests
-
-returns-5 : tie.Need-returns-5
-unfolding hasPages tableGood
-returns-5 c = search (tests, and-true)
+returns-4 c = search laws.good-pages
 
 pub has-pages-spec : {M : Type 1} → statement M
-has-pages-spec = tie.close (tie.spec returns returns-2 returns-3 returns-4 returns-5)
+has-pages-spec =
+    tie.close
+    (tie.spec returns returns-2 shape-of-requires enum-told enum-told-2 returns-3 returns-4)
