@@ -1,9 +1,9 @@
 /*
  * Celltimber: the address handling of an emulated PCI host bridge, as C and C++ call it. docs/HOST.md has every table word by word, how to link, and examples.
  *
- * libbridge.a   celltimber_run: serves requests.
- * libgroups.a   celltimber_owner, celltimber_member, celltimber_closed, celltimber_covers, celltimber_seen: tell whom a request belongs to, and whether
- *               the premises of isolation hold of given tables.
+ * libbridge.a            celltimber_run: serves requests.
+ * libisolation_tests.a   celltimber_owner, celltimber_member, celltimber_closed, celltimber_covers, celltimber_seen: say whom a request belongs to,
+ *                        and whether the premises of isolation hold of given tables.
  *
  * Arguments. A slice is two arguments: a pointer to its first element, and right after it its length, which counts elements and not bytes. N (PEs),
  * M (interrupts) and R (requesters) come first, then the tables.
@@ -19,8 +19,8 @@
  * - While a call runs nobody else writes a slice of it, and nobody else reads a slice that it writes. This holds of memory too: words that a guest may
  *   write at any time are copied first.
  *
- * Threads. Nothing is kept between calls: there are no variables outside the slices, no allocation and no calls of the C library. Calls may run at the same
- * time if no slice that one of them writes is lent to another. So each bridge has a state and interrupts of its own, and is served by one thread at a time.
+ * Threads. Nothing is kept between calls: there are no variables outside the slices, no allocation, and no calls of the C library but memset in
+ * celltimber_covers. Calls may run at the same time if no slice that one of them writes is lent to another. So each bridge has a state and interrupts of its own, and is served by one thread at a time.
  */
 #ifndef CELLTIMBER_H
 #define CELLTIMBER_H
@@ -205,7 +205,7 @@ size_t celltimber_run(
     const uint64_t *requests, size_t requests_length,
     uint64_t *answers, size_t answers_length);
 
-/* ---- libgroups.a: only celltimber_covers writes. A group is a bit vector of four words, as a peer vector is; other words of it are nobody's ---- */
+/* ---- libisolation_tests.a: only celltimber_covers writes. A group is a bit vector of four words, as a peer vector is; other words of it are nobody's ---- */
 
 /*
  * The number of the PE that the request belongs to; CELLTIMBER_NOBODY where there is none, where a table is too short to say it, for words that name no

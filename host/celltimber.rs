@@ -2,8 +2,8 @@
 // docs/HOST.md says what each word is, and host/celltimber.h has the same for C: each number here
 // stands there under its name with CELLTIMBER_ before it.
 //
-// Link libbridge.a for `run`, libgroups.a for `owner`, `member`, `closed`, `covers` and `seen`. A
-// program that calls none of an archive's functions need not link it.
+// Link libbridge.a for `run`, libisolation_tests.a for `owner`, `member`, `closed`, `covers` and
+// `seen`. A program that calls none of an archive's functions need not link it.
 
 /// The words of one request and of one answer.
 pub const REQUEST_WORDS: usize = 8;
@@ -220,7 +220,7 @@ pub fn run(
     }
 }
 
-// ---- libgroups.a ----
+// ---- libisolation_tests.a ----
 
 extern "C" {
     fn celltimber_owner(

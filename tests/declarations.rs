@@ -204,7 +204,7 @@ fn clauses(file: &str, function: &str, prefix: &str, suffix: &str) -> Numbers {
 /// and tests/host.rs look at what a freeze and a clear leave.
 fn defined(run: &Function) -> Numbers {
     const ANSWER: &str = "crates/kinds/specs/Answer.antt";
-    const LAYOUT: &str = "crates/layout/specs/Layout.antt";
+    const LAYOUT: &str = "crates/request_words/specs/Layout.antt";
     let mut all = Numbers::from([("MMIO_STOP".to_string(), 1), ("DMA_STOP".to_string(), 2)]);
     all.extend(clauses(LAYOUT, "encoded ", "", ""));
     all.extend(clauses(LAYOUT, "directionNumber ", "", ""));
@@ -229,13 +229,13 @@ fn defined(run: &Function) -> Numbers {
     for (k, table) in lengths.take(8).enumerate() {
         all.insert(format!("TABLE_{table}"), k as u64);
     }
-    for (name, number) in constants(&read("crates/groups/src/seen.rt")) {
+    for (name, number) in constants(&read("crates/isolation_tests/src/seen.rt")) {
         if all.get(&format!("TABLE_{name}")) != Some(&number) {
             all.remove(&format!("TABLE_{name}"));
         }
     }
-    let layout = constants(&read("crates/layout/src/lib.rt"));
-    let interrupts = constants(&read("crates/interrupts/src/lib.rt"));
+    let layout = constants(&read("crates/request_words/src/layout.rt"));
+    let interrupts = constants(&read("crates/msi/src/interrupts.rt"));
     all.extend(layout);
     all.extend(interrupts.into_iter().filter(|(name, _)| ["P", "Q"].contains(&name.as_str())));
     if let Some(&number) = constants(&read("crates/kinds/src/number.rt")).get("NO_PE") {

@@ -270,7 +270,7 @@ static uint64_t covers(uint64_t pes, size_t marks_length)
         marks_length, lent.tables, LENGTH(lent.tables), lent.under, LENGTH(lent.under));
 }
 
-/* The functions of libgroups.a. celltimber_covers writes marks, tables and under, the others nothing. */
+/* The functions of libisolation_tests.a. celltimber_covers writes marks, tables and under, the others nothing. */
 static void groups(void)
 {
     static const uint64_t members[] = {0x6, 0xE, 0xC, 0x8, 0x2, 0x0};
@@ -314,7 +314,7 @@ static void groups(void)
     memcpy(lent.tables, before.tables, sizeof lent.tables);
     memcpy(lent.under, before.under, sizeof lent.under);
     if (memcmp(&before, &lent, sizeof lent) != 0)
-        fail("a function of libgroups.a has written a word");
+        fail("a function of libisolation_tests.a has written a word");
     printf("no group: member %" PRIu64 ", closed %" PRIu64 "\n", celltimber_member(NULL, 0, 1),
         celltimber_closed(PES, lent.peers, LENGTH(lent.peers), NULL, 0));
 }

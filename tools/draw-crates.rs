@@ -30,9 +30,6 @@ const FAMILIES: [(&str, &str); 10] = [
     ("replay", "replay_*"),
 ];
 
-/// Other names, each with one whose family it has.
-const LIKE: &str = "outcomes=kinds answers=kinds sizes=tables words=tables pages=dma page_tables=dma addresses=dma entries=dma translation=dma interrupts=msi open_windows=mmio windows=mmio accesses=mmio peers=endpoints decision=decide forms=decide step=handle layout=request_words word_lists=request_words runs=request_words members=isolation_reach marks=isolation_reach footprint=isolation_reach groups=isolation_tests";
-
 struct Crate {
     name: String,
     family: usize,
@@ -46,8 +43,6 @@ struct Crate {
 
 /// The family of a crate, by its name.
 fn family(name: &str) -> Option<usize> {
-    let mut like = LIKE.split(' ').filter_map(|pair| pair.split_once('='));
-    let name = like.find(|pair| pair.0 == name).map_or(name, |pair| pair.1);
     let has = |test: &dyn Fn(&str) -> bool| {
         FAMILIES.iter().position(|(_, names)| names.split(' ').any(test))
     };

@@ -10,13 +10,13 @@ use Rattle.kinds.specs.declared.answer.Answer.{Answer}
 use Rattle.kinds.specs.declared.request.Request.{Request}
 use Rattle.isolation.specs.Isolation.{isolation}
 use Rattle.profile.specs.Tables.{Tables, Live}
-use Rattle.layout.specs.Layout.{requestWords, answerWords, decodedAt, requestIn, written, writtenIn}
-use Rattle.layout.specs.LayoutLaws.{request-in, written-in}
+use Rattle.request_words.specs.Layout.{requestWords, answerWords, decodedAt, requestIn, written, writtenIn}
+use Rattle.request_words.specs.LayoutLaws.{request-in, written-in}
 use Rattle.bridge.specs.Promise.{Handled, RanAll}
-use Rattle.runs.specs.RunIsolation.{run-isolation}
-use Rattle.runs.specs.RunOfList.{run-of-list}
-use Rattle.runs.specs.Run.{RunState, runState, ranOne, ranTo, served}
-use Rattle.sizes.specs.Tables.{live}
+use Rattle.request_words.specs.RunIsolation.{run-isolation}
+use Rattle.request_words.specs.RunOfList.{run-of-list}
+use Rattle.request_words.specs.Run.{RunState, runState, ranOne, ranTo, served}
+use Rattle.tables.specs.Tables.{live}
 
 -- one request, served
 pub one-served : (f : Tables) (m w t i l : List ℕ) (k : ℕ) {q : Request} {a : Answer} {t′ i′ l′ : List ℕ} → k * requestWords + requestWords ≤ length w

@@ -1,5 +1,5 @@
 -- What the entry points promise.
---     Handled f m s q a t     request q was answered a and left t: as the definition says, and isolation holds of that definition (of `step`)
+--     Handled f m s q a t     request q was answered a and left t: as the definition says, and isolation holds of that definition (of `handle`)
 --     RanAll f m w s l n t k  of the request words w, n were served on s; t is what they left, and k the answer words that were l: as the definition
 --                             says. By it the words of a list of requests are served as the list, and isolation holds of it, for requests and for
 --                             their words
@@ -9,10 +9,10 @@ use mathlib.Core.List.{List}
 use Prim.Native.Nat.{ℕ}
 use Rattle.isolation.specs.Isolation.{Isolation}
 use Rattle.profile.specs.Tables.{Tables, Live}
-use Rattle.runs.specs.Run.{served, ranTo}
-use Rattle.runs.specs.RunIsolation.{RunIsolation}
-use Rattle.runs.specs.RunOfList.{RunOfList}
-pub use Rattle.step.specs.Promise.{Handled}
+use Rattle.request_words.specs.Run.{served, ranTo}
+use Rattle.request_words.specs.RunIsolation.{RunIsolation}
+use Rattle.request_words.specs.RunOfList.{RunOfList}
+pub use Rattle.handle.specs.Promise.{Handled}
 
 pub record RanAll (f : Tables) (m w : List ℕ) (s : Live) (l : List ℕ) (n : ℕ) (t : Live) (k : List ℕ) : Type 0 where
   pub count : n ≡ served w l

@@ -2,7 +2,7 @@
 use crate::run;
 use kinds::record::Sizes;
 ghost use Rattle.bridge.specs.Promise.{RanAll};
-ghost use Rattle.sizes.specs.Tables.{tables, live};
+ghost use Rattle.tables.specs.Tables.{tables, live};
 
 // Serves the requests in `requests` on the lent tables, and writes their answers. N, M and R come first.
 #[no_mangle]

@@ -1,5 +1,3 @@
-// The bridge: any request on any tables, and lists of requests.
-pub mod decide;
+// The bridge: lists of requests as words, served on the lent tables; the function that Rust and C call. Defined in crates/request_words/specs/Run.antt.
 pub mod export;
-pub mod handle;
 pub mod run;

@@ -1,15 +1,15 @@
 // A list of requests as words, and their answers as words. Each request gets the tables as the last one left them.
-use crate::handle;
+use handle;
 use kinds::record::Sizes;
-use layout;
-use word_lists;
+use request_words::layout;
+use request_words::word_lists;
 ghost use mathlib.Core.Path.{_≡_};
 ghost use Prim.Native.Nat.{_+_, _*_, _/_, _≤_, min};
 ghost use lib.ListN.{length};
-ghost use Rattle.layout.specs.Layout.{requestWords, answerWords};
+ghost use Rattle.request_words.specs.Layout.{requestWords, answerWords};
 ghost use Rattle.bridge.specs.Promise.{RanAll};
-ghost use Rattle.runs.specs.Run.{runState, ranOne};
-ghost use Rattle.sizes.specs.Tables.{tables, live};
+ghost use Rattle.request_words.specs.Run.{runState, ranOne};
+ghost use Rattle.tables.specs.Tables.{tables, live};
 
 // Request `k`, served: its effect is done and its answer written.
 fn serve(

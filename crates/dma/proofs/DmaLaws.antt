@@ -25,13 +25,13 @@ use Rattle.profile.specs.Freeze.{stopWord, dmaStopped}
 use Rattle.profile.specs.Msi.{interruptIn, number32, number64, msiFormed, delivered, msi}
 use Rattle.profile.specs.Step.{outcomeOf, byEntry, served, dmaAsked, finish}
 use Rattle.profile.specs.Walk.{byPages}
-use Rattle.entries.specs.Ask.{asked, ended}
-use Rattle.entries.specs.AskLaws.{isWalk, walked-walks, other-walks, other-ends}
-use Rattle.entries.specs.declared.ask.Way.{Way}
-use Rattle.entries.specs.declared.ask.Way as way-kinds
-use Rattle.entries.specs.declared.ask.Way.the-variants as way
-use Rattle.translation.specs.Turn.{summed}
-use Rattle.translation.specs.declared.translate.Translation.{Translation}
+use Rattle.dma_entry.specs.Ask.{asked, ended}
+use Rattle.dma_entry.specs.AskLaws.{isWalk, walked-walks, other-walks, other-ends}
+use Rattle.dma_entry.specs.declared.ask.Way.{Way}
+use Rattle.dma_entry.specs.declared.ask.Way as way-kinds
+use Rattle.dma_entry.specs.declared.ask.Way.the-variants as way
+use Rattle.dma_walk.specs.Turn.{summed}
+use Rattle.dma_walk.specs.declared.translate.Translation.{Translation}
 
 -- `outcome_of`
 pub result-is : (p : PeNumber) (a : ByteAddress) (t : Translated) (n : ℕ) {y : Translated} {x : Outcome} → t ≡ y → x ≡ outcomeOf p a y n → x ≡ outcomeOf p a t n

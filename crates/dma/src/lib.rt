@@ -1,22 +1,22 @@
-// A DMA of a PE: what it comes to before memory is read, by the stop bits of the PE, the class of its address and the entry that it picks, and what the
-// walk of its page makes of it.
-use addresses;
+// A DMA of a PE: its checks before memory is read, by the stop bits of the PE, the class of its address and the entry that it picks, and its outcome by the
+// walk of its page. Defined in crates/profile/specs/Step.antt.
+use dma_entry::addresses;
+use dma_entry::ask;
+use dma_entry::ask::Way;
+use dma_walk::translate;
 use endpoints;
-use entries::ask;
-use entries::ask::Way;
-use interrupts;
 use kinds::answer::Reason;
 use kinds::lookup::Translated;
 use kinds::number::ByteAddress;
 use kinds::number::PeNumber;
+use kinds::outcome;
 use kinds::outcome::Check;
 use kinds::outcome::Outcome;
 use kinds::record::TranslationEntry;
 use kinds::request::AddressClass;
 use kinds::request::DmaRequest;
 use msi;
-use outcomes;
-use translation::translate;
+use msi::interrupts;
 ghost use mathlib.Core.Path.{_≡_};
 ghost use Rattle.kinds.specs.Checked.{shown, Walk};
 ghost use Rattle.kinds.specs.Words.{at};
@@ -30,8 +30,8 @@ fn outcome_of(pe: PeNumber, address: ByteAddress, result: Translated, words: u64
     ensures { λ r. ⌜ r ≡ outcomeOf pe address result words ⌝ }
 {
     match result {
-        Translated::To(to) => outcomes::passed(pe, to, words),
-        Translated::Fault { reason, place: _ } => outcomes::failed(reason, address, words),
+        Translated::To(to) => outcome::passed(pe, to, words),
+        Translated::Fault { reason, place: _ } => outcome::failed(reason, address, words),
     }
 }
 
@@ -43,19 +43,19 @@ fn by_entry(entry: TranslationEntry, pe: PeNumber, dma: DmaRequest) -> Check
     let offset = addresses::offset_of(address);
     match ask::ask(entry, offset) {
         Way::Walk(_) => {
-            return outcomes::walk(pe, entry, dma);
+            return outcome::walk(pe, entry, dma);
         }
         Way::Bypass => {
-            let outcome = outcomes::passed(pe, offset, 0);
-            return outcomes::ready(pe, outcome);
+            let outcome = outcome::passed(pe, offset, 0);
+            return outcome::ready(pe, outcome);
         }
         Way::BadEntry => {
-            let outcome = outcomes::failed(Reason::BadEntry, address, 0);
-            return outcomes::ready(pe, outcome);
+            let outcome = outcome::failed(Reason::BadEntry, address, 0);
+            return outcome::ready(pe, outcome);
         }
         Way::OutsideWindow => {
-            let outcome = outcomes::failed(Reason::OutsideWindow, address, 0);
-            return outcomes::ready(pe, outcome);
+            let outcome = outcome::failed(Reason::OutsideWindow, address, 0);
+            return outcome::ready(pe, outcome);
         }
     }
 }
@@ -71,9 +71,9 @@ fn deliver(count: u64, interrupts: &[u64], pe: PeNumber, dma: DmaRequest, number
             let record = interrupts::interrupt_at(interrupts, number);
             return msi::deliver(pe, address, number, record);
         }
-        return outcomes::failed(Reason::MsiRefused, address, 0);
+        return outcome::failed(Reason::MsiRefused, address, 0);
     }
-    outcomes::failed(Reason::MsiRefused, address, 0)
+    outcome::failed(Reason::MsiRefused, address, 0)
 }
 
 // A DMA of a PE that is not stopped, by the class of its address.
@@ -88,16 +88,16 @@ fn by_class(count: u64, entries: &[u64], interrupts: &[u64], pe: PeNumber, dma: 
         AddressClass::Msi32 => {
             let number = msi::msi_number32(address, dma.data);
             let outcome = deliver(count, interrupts, pe, dma, number);
-            return outcomes::ready(pe, outcome);
+            return outcome::ready(pe, outcome);
         }
         AddressClass::Msi64 => {
             let number = msi::msi_number64(address, dma.data);
             let outcome = deliver(count, interrupts, pe, dma, number);
-            return outcomes::ready(pe, outcome);
+            return outcome::ready(pe, outcome);
         }
         AddressClass::Unserved => {
-            let outcome = outcomes::failed(Reason::AddressClass, address, 0);
-            return outcomes::ready(pe, outcome);
+            let outcome = outcome::failed(Reason::AddressClass, address, 0);
+            return outcome::ready(pe, outcome);
         }
     }
 }
@@ -115,7 +115,7 @@ pub fn check_dma(
 {
     let stop = endpoints::stop_word(state, pe);
     if endpoints::dma_stopped(stop) {
-        return outcomes::refuse(Reason::DmaStopped);
+        return outcome::refuse(Reason::DmaStopped);
     }
     by_class(count, entries, interrupts, pe, dma)
 }

@@ -1,12 +1,12 @@
-// The words of a PE in the state: its stop bits and its error record, and their release by firmware.
+// The words of a PE: its stop bits and its error record, with their release by firmware, and its peer vector. Defined in crates/profile/specs/Freeze.antt.
 use kinds::number::PeNumber;
 use kinds::request::Part;
 use profile::limits;
-use words::put;
-use words::word;
+use tables::words::put;
+use tables::words::word;
 ghost use mathlib.Core.Path.{_≡_};
-ghost use Rattle.kinds.specs.Words.{at};
-ghost use Rattle.profile.specs.Freeze.{dmaStopped, stopWord, released};
+ghost use Rattle.kinds.specs.Words.{at, bitOf};
+ghost use Rattle.profile.specs.Freeze.{dmaStopped, stopWord, released, vectorIn};
 
 // Stop bits, reason, value.
 pub const STATE_WORDS: usize = limits::STATE_WORDS as usize;
@@ -36,4 +36,27 @@ pub fn release(state: &mut [u64], pe: PeNumber, part: Part)
             put(state, first + 2, 0);
         }
     }
+}
+
+// The words of a peer vector.
+const PEER_WORDS: usize = limits::PEER_WORDS as usize;
+
+pub fn peer_vector(peers: &[u64], pe: PeNumber) -> [u64; 4]
+    ensures { λ r. ⌜ r ≡ vectorIn (now (peers .entry)) pe ⌝ }
+{
+    let first = pe.0 as usize * PEER_WORDS;
+    [
+        word(peers, first),
+        word(peers, first + 1),
+        word(peers, first + 2),
+        word(peers, first + 3),
+    ]
+}
+
+// Whether PE k is in a bit vector: bit k mod 64 of word k div 64.
+pub fn is_listed(vector: &[u64], k: usize) -> bool
+    ensures { λ r. ⌜ r ≡ bitOf (now (vector .entry)) k ⌝ }
+{
+    let bits = word(vector, k / 64);
+    (bits >> (k % 64)) % 2 == 1
 }

@@ -1,112 +1,62 @@
-// What firmware asks of an interrupt: its end, and a new priority.
-use interrupts::P;
-use interrupts::Q;
-use interrupts::in_range;
-use kinds::answer::Answer;
+// Firmware requests: what a clear, an end and a priority are answered and do. Defined in crates/profile/specs/Firmware.antt.
+pub mod interrupt;
+
 use kinds::answer::Reason;
+use kinds::lookup::Owner;
+use kinds::outcome;
+use kinds::outcome::Check;
 use kinds::outcome::Effect;
-use kinds::outcome::Outcome;
-use kinds::record::Interrupt;
-use msi::arrive;
-use outcomes;
-use profile::limits::HOLDING;
+use kinds::request::Part;
+use msi::interrupts;
+use owners;
 ghost use mathlib.Core.Path.{_≡_};
+ghost use Rattle.kinds.specs.Checked.{shown, Ready};
+ghost use Rattle.kinds.specs.Outcome.{done};
 ghost use Rattle.kinds.specs.declared.answer.Reason.the-variants.{BadFirmware};
-ghost use Rattle.kinds.specs.declared.outcome.Effect.the-variants as effect;
-ghost use Rattle.kinds.specs.Outcome.{refused, done};
+ghost use Rattle.kinds.specs.declared.outcome.Effect.the-variants.{Release};
+ghost use Rattle.owners.specs.ByOwner.{byOwner};
 ghost use Rattle.profile.specs.Firmware.{onGood, ends, prioritized};
+ghost use Rattle.profile.specs.Msi.{interruptIn};
+ghost use Rattle.profile.specs.Owner.{ofInterrupt};
+ghost use Rattle.profile.specs.Tables.{named};
 
-fn firmware_refused() -> Outcome
-    ensures { λ r. ⌜ r ≡ refused BadFirmware ⌝ }
+// A clear of a stop bit or of the error record of a PE.
+pub fn clear(pes: u16, pe: u64, part: Part) -> Check
+    ensures { λ r. ⌜ r ≡ shown (byOwner (λ p. Ready p (done (Release part))) (named BadFirmware pes pe)) ⌝ }
 {
-    outcomes::refused(Reason::BadFirmware)
-}
-
-// Firmware wrote priority and state, and nothing is presented.
-fn written(number: u64, priority: u64, bits: u64) -> Outcome
-    ensures { λ r. ⌜ r ≡ done (effect.Interrupt number priority bits) ⌝ }
-{
-    outcomes::done(Effect::Interrupt {
-        number,
-        priority,
-        bits,
-    })
-}
-
-// The end of an interrupt whose words are in their ranges: what was held is presented again, unless the priority holds it.
-fn ended(number: u64, interrupt: Interrupt) -> Outcome
-    ensures { λ r. ⌜ r ≡ ends number interrupt ⌝ }
-{
-    let priority = interrupt.priority;
-    let bits = interrupt.bits;
-    if bits < P {
-        return Outcome {
-            answer: Answer::Done,
-            effect: Effect::Keep,
-        };
-    }
-    if bits == P {
-        return written(number, priority, 0);
-    }
-    if interrupt.priority == HOLDING {
-        return written(number, priority, Q);
-    }
-    Outcome {
-        answer: Answer::Msi {
-            number,
-            server: interrupt.server,
-            priority,
-        },
-        effect: Effect::Interrupt {
-            number,
-            priority,
-            bits: P,
-        },
-    }
-}
-
-// The end of an interrupt whose number and PE are good.
-pub fn end(number: u64, interrupt: Interrupt) -> Outcome
-    ensures { λ r. ⌜ r ≡ onGood interrupt (ends number interrupt) ⌝ }
-{
-    if in_range(interrupt) {
-        return ended(number, interrupt);
-    }
-    firmware_refused()
-}
-
-// A new priority of an interrupt whose words are in their ranges. It is written first: an MSI that the old one held arrives under it.
-fn prioritize(number: u64, next: u64, interrupt: Interrupt) -> Outcome
-    ensures { λ r. ⌜ r ≡ prioritized number next interrupt ⌝ }
-{
-    let old = interrupt.priority;
-    let bits = interrupt.bits;
-    if old == HOLDING {
-        if next == HOLDING {
-            return written(number, next, bits);
+    match owners::named_pe(Reason::BadFirmware, pes, pe) {
+        Owner::Of(pe) => {
+            let outcome = outcome::done(Effect::Release { part });
+            outcome::ready(pe, outcome)
         }
-        if bits % 2 == Q {
-            return arrive(
-                number,
-                Interrupt {
-                    pe: interrupt.pe,
-                    server: interrupt.server,
-                    priority: next,
-                    bits: bits / 2 * 2,
-                },
-            );
-        }
-        return written(number, next, bits);
+        Owner::Nobody(reason) => outcome::refuse(reason),
     }
-    written(number, next, bits)
 }
 
-// A new priority of an interrupt whose number and PE are good.
-pub fn set_priority(number: u64, priority: u64, interrupt: Interrupt) -> Outcome
-    ensures { λ r. ⌜ r ≡ onGood interrupt (prioritized number priority interrupt) ⌝ }
+// The end of an interrupt; `count` is M.
+pub fn end(pes: u16, count: u64, interrupts: &[u64], number: u64) -> Check
+    ensures { λ r. ⌜ r ≡ shown (byOwner (λ p. Ready p (onGood (interruptIn (now (interrupts .entry)) number) (ends number (interruptIn (now (interrupts .entry)) number)))) (ofInterrupt pes count (now (interrupts .entry)) number)) ⌝ }
 {
-    if in_range(interrupt) {
-        return prioritize(number, priority, interrupt);
+    match owners::of_interrupt(pes, count, interrupts, number) {
+        Owner::Of(pe) => {
+            let record = interrupts::interrupt_at(interrupts, number);
+            let outcome = interrupt::end_interrupt(number, record);
+            outcome::ready(pe, outcome)
+        }
+        Owner::Nobody(reason) => outcome::refuse(reason),
     }
-    firmware_refused()
+}
+
+// A new priority of an interrupt; `count` is M.
+pub fn prioritize(pes: u16, count: u64, interrupts: &[u64], number: u64, priority: u64) -> Check
+    ensures { λ r. ⌜ r ≡ shown (byOwner (λ p. Ready p (onGood (interruptIn (now (interrupts .entry)) number) (prioritized number priority (interruptIn (now (interrupts .entry)) number)))) (ofInterrupt pes count (now (interrupts .entry)) number)) ⌝ }
+{
+    match owners::of_interrupt(pes, count, interrupts, number) {
+        Owner::Of(pe) => {
+            let record = interrupts::interrupt_at(interrupts, number);
+            let outcome = interrupt::set_priority(number, priority, record);
+            outcome::ready(pe, outcome)
+        }
+        Owner::Nobody(reason) => outcome::refuse(reason),
+    }
 }

@@ -1,12 +1,12 @@
-// The freeze of a PE with its peers: stop bits and error records.
-use answers::reason_number;
+// The freeze of a PE with its peers: stop bits and error records. Defined in crates/profile/specs/Freeze.antt.
 use endpoints::STATE_WORDS;
+use endpoints::is_listed;
 use kinds::answer::Reason;
+use kinds::answer::reason_number;
 use kinds::number::PeNumber;
 use kinds::outcome::ErrorRecord;
-use peers::is_listed;
-use words::put;
-use words::word;
+use tables::words::put;
+use tables::words::word;
 ghost use mathlib.Core.Path.{_≡_};
 ghost use Prim.Native.Nat.{_+_, _*_, _^_, _<_};
 ghost use lib.ListN.{length};

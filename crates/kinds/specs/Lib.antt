@@ -1,7 +1,7 @@
 pub mod Answer
 pub mod AnswerCases
-pub mod Number
 pub mod Checked
+pub mod Number
 pub mod NumberLaws
 pub mod Outcome
 pub mod Powers

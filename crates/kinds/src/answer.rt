@@ -1,6 +1,8 @@
 // What the bridge answers, and the numbers that stand for it.
 use crate::number::ByteAddress;
 use crate::number::PeNumber;
+ghost use mathlib.Core.Path.{_≡_};
+ghost use Rattle.kinds.specs.Answer.{reasonNumber, numbered};
 
 // Why a request is refused or a PE is frozen; `reason_number` gives the number of each.
 pub enum Reason {
@@ -56,4 +58,75 @@ pub struct Numbers {
     pub pe: u64,
     pub server: u64,
     pub priority: u64,
+}
+
+pub fn reason_number(reason: Reason) -> u64
+    ensures { λ r. ⌜ r ≡ reasonNumber reason ⌝ }
+{
+    match reason {
+        Reason::TableLength => 1,
+        Reason::BadRequest => 2,
+        Reason::UnknownRequester => 3,
+        Reason::DmaStopped => 4,
+        Reason::AddressClass => 5,
+        Reason::BadEntry => 6,
+        Reason::OutsideWindow => 7,
+        Reason::TableWord => 8,
+        Reason::MsiRefused => 9,
+        Reason::NoWindow => 10,
+        Reason::MmioStopped => 11,
+        Reason::ErrorMessage => 12,
+        Reason::FrozenAsPeer => 13,
+        Reason::BadFirmware => 14,
+        Reason::OutsideMemory => 15,
+    }
+}
+
+pub fn in_numbers(answer: Answer) -> Numbers
+    ensures { λ r. ⌜ r ≡ numbered answer ⌝ }
+{
+    match answer {
+        Answer::Pass { address, pe, words } => Numbers {
+            name: 0,
+            reason: 0,
+            value: address.0,
+            words,
+            pe: pe.0 as u64,
+            server: 0,
+            priority: 0,
+        },
+        Answer::Msi {
+            number,
+            server,
+            priority,
+        } => Numbers {
+            name: 1,
+            reason: 0,
+            value: number,
+            words: 0,
+            pe: 0,
+            server,
+            priority,
+        },
+        Answer::Held { number } => plain(2, 0, number, 0),
+        Answer::Ones { value } => plain(3, 11, value, 0),
+        Answer::Drop => plain(4, 11, 0, 0),
+        Answer::Refuse { reason, words } => plain(5, reason_number(reason), 0, words),
+        Answer::Done => plain(6, 0, 0, 0),
+    }
+}
+
+// An answer that names no PE, server or priority.
+fn plain(name: u64, reason: u64, value: u64, words: u64) -> Numbers
+    ensures { λ r. ⌜ r ≡ record { name = name; reason = reason; value = value; words = words; pe = 0; server = 0; priority = 0 } ⌝ }
+{
+    Numbers {
+        name,
+        reason,
+        value,
+        words,
+        pe: 0,
+        server: 0,
+        priority: 0,
+    }
 }

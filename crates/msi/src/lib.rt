@@ -1,4 +1,6 @@
-// An MSI: its number, its form, and what it comes to as it arrives.
+// Interrupts and MSIs: the lent words of an interrupt; an MSI's number, its form, and what happens as it arrives. Defined in crates/profile/specs/Msi.antt.
+pub mod interrupts;
+
 use interrupts::P;
 use interrupts::Q;
 use interrupts::in_range;
@@ -6,11 +8,11 @@ use kinds::answer::Answer;
 use kinds::answer::Reason;
 use kinds::number::ByteAddress;
 use kinds::number::PeNumber;
+use kinds::outcome;
 use kinds::outcome::Effect;
 use kinds::outcome::Outcome;
 use kinds::record::Interrupt;
 use kinds::request::Direction;
-use outcomes;
 use profile::limits::HOLDING;
 ghost use mathlib.Core.Path.{_≡_};
 ghost use Prim.Native.Nat.{_%_};
@@ -72,7 +74,7 @@ fn presented(priority: u64, bits: u64) -> bool
     bits < P
 }
 
-// What an arriving MSI comes to: P is set where it is presented, Q where it is held. The other bit stays.
+// The outcome of an MSI that arrives: P is set where it is presented, Q where it is held. The other bit stays.
 pub fn arrive(number: u64, interrupt: Interrupt) -> Outcome
     ensures { λ r. ⌜ r ≡ arrives number interrupt ⌝ }
 {
@@ -105,7 +107,7 @@ pub fn arrive(number: u64, interrupt: Interrupt) -> Outcome
 fn msi_refused(address: ByteAddress) -> Outcome
     ensures { λ r. ⌜ r ≡ failed MsiRefused address 0 ⌝ }
 {
-    outcomes::failed(Reason::MsiRefused, address, 0)
+    outcome::failed(Reason::MsiRefused, address, 0)
 }
 
 // An MSI of a PE, with its number and the words of that interrupt.

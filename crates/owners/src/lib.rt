@@ -1,12 +1,12 @@
-// Whom a request belongs to, on tables of any length. N has 16 bits, so that a number below it is a PE's.
-use interrupts;
+// Whom a request belongs to, on tables of any length. N has 16 bits, so that a number below it is a PE's. Defined in crates/profile/specs/Owner.antt.
 use kinds::answer::Reason;
 use kinds::lookup::Hit;
 use kinds::lookup::Owner;
 use kinds::number::PeNumber;
 use kinds::request::Request;
-use windows;
-use words;
+use mmio_windows;
+use msi::interrupts;
+use tables::words;
 ghost use mathlib.Core.Path.{_≡_};
 ghost use Rattle.profile.specs.Tables.{named};
 ghost use Rattle.profile.specs.Owner.{ofRequester, ofInterrupt, ofHit, ownerIn};
@@ -70,11 +70,11 @@ pub fn owner_of(
         Request::Dma(dma) => of_requester(pes, requester_count, requesters, dma.requester),
         Request::Load { address, width: _ } => of_hit(
             pes,
-            windows::route(windows, segments, address),
+            mmio_windows::route(windows, segments, address),
         ),
         Request::Store { address, width: _ } => of_hit(
             pes,
-            windows::route(windows, segments, address),
+            mmio_windows::route(windows, segments, address),
         ),
         Request::Error { requester } => of_requester(pes, requester_count, requesters, requester),
         Request::Clear { pe, part: _ } => named_pe(Reason::BadFirmware, pes, pe),

@@ -1,4 +1,4 @@
-// Replay text in pieces of any length: bytes in, output lines out.
+// Replay text in pieces of any length: bytes in, output lines out. Defined in crates/replay_feed/specs/Feed.antt.
 mod bytes;
 
 use bytes::take_line;

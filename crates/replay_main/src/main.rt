@@ -1,4 +1,4 @@
-// Replays standard input to standard output.
+// Replays standard input to standard output. Defined in crates/replay_text/specs/Replay.antt.
 use replay_feed;
 use replay_feed::Fed;
 use replay_session::Progress;

@@ -1,4 +1,4 @@
-// A session of replay text: a line read, done on the lent tables and answered.
+// A session of replay text: a line read, done on the lent tables and answered. Defined in crates/replay_session/specs/Standing.antt.
 pub mod run;
 
 use kinds::answer::Numbers;

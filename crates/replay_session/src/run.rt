@@ -1,6 +1,6 @@
 // What a line does to the lent tables, and what it answers.
-use answers;
-use bridge::handle;
+use handle;
+use kinds::answer;
 use kinds::record::Sizes;
 use kinds::request::Request;
 use profile::limits::ENTRY_WORDS;
@@ -17,7 +17,7 @@ use replay_text::Reply;
 ghost use mathlib.Core.Path.{_≡_};
 ghost use Prim.Native.Nat.{_*_};
 ghost use lib.ListN.{take};
-ghost use Rattle.sizes.specs.Tables.{tables, live};
+ghost use Rattle.tables.specs.Tables.{tables, live};
 ghost use Rattle.replay_tables.specs.Lent.{lent};
 ghost use Rattle.replay_session.specs.Promise.{RanLine, Requested, ServedParts};
 
@@ -65,7 +65,7 @@ fn serve_parts(
         &mut state[..state_end],
         request,
     );
-    Reply::Says(answers::in_numbers(answer))
+    Reply::Says(answer::in_numbers(answer))
 }
 
 // A request, on the parts of the lent tables that are in use.

@@ -15,7 +15,7 @@ use Rattle.kinds.specs.Tests.{and-true, by-cases}
 use Rattle.kinds.specs.declared.record.Lengths.{Lengths}
 use Rattle.replay_text.specs.declared.Line.the-variants.{Size}
 use Rattle.profile.specs.Tables.{entryWords, peerWords, interruptWords, stateWords, windowWords, segmentCount}
-use Rattle.sizes.specs.Tables.{lengthsOf}
+use Rattle.tables.specs.Tables.{lengthsOf}
 use Rattle.replay_tables.specs.Lent.{Lent, lent, lengthsIn, peRoom, otherRoom, roomFor, cleared, sizeLine}
 use Rattle.replay_tables.specs.Promise.{SizedTo}
 use Rattle.replay_tables.specs.declared.Extent.{Extent}

@@ -1,4 +1,5 @@
 // The lent tables of a replay: how many words of them are in use, a word of them set, all of them cleared for new sizes.
+// Defined in crates/replay_tables/specs/Lent.antt.
 mod size;
 mod table;
 
@@ -14,9 +15,9 @@ use replay_text::Reply;
 use replay_text::Table;
 use size::clear_all;
 use size::room_for;
-use sizes;
 use table::set_short;
 use table::set_word;
+use tables::sizes;
 ghost use mathlib.Core.Path.{_≡_};
 ghost use Prim.Native.Nat.{_*_, min};
 ghost use Rattle.replay_text.specs.Text.{badNumbers};

@@ -1,4 +1,5 @@
 // The replay text: what it says by its definition, and the types that the definition shares with the code.
+// It stands in specs/, from Replay.antt down.
 use kinds::answer::Numbers;
 use kinds::request::Request;
 

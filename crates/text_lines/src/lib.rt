@@ -1,4 +1,4 @@
-// What a line of replay text says, from its bytes.
+// What a line of replay text says, from its bytes. Defined in crates/replay_text/specs/Line.antt.
 mod firmware;
 mod request;
 

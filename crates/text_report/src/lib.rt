@@ -1,4 +1,4 @@
-// The lines that a replay writes, as bytes in a lent slice.
+// The lines that a replay writes, as bytes in a lent slice. Defined in crates/replay_text/specs/Text.antt.
 mod digits;
 mod names;
 

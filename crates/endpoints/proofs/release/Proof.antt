@@ -1,5 +1,5 @@
 -- `endpoints::release` meets its contract. Assumes nothing.
-use Rattle.endpoints.proofs.Laws as laws
+use Rattle.endpoints.proofs.ReleaseLaws as laws
 use borrow.Author.Needs.{needs}
 use Rattle.endpoints.proofs.release.Statement.{statement}
 use Rattle.endpoints.proofs.release.Tie as tie

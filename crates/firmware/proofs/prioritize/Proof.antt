@@ -1,51 +1,47 @@
 -- `firmware::prioritize` meets its contract. Assumes nothing.
-use Rattle.profile.specs.Firmware.{prioritized}
-use Rattle.kinds.specs.Tests.{tests}
+use Rattle.owners.specs.ByOwnerLaws as by-owner
+use Rattle.firmware.proofs.RequestLaws as laws
 use borrow.Author.Needs.{needs}
 use Rattle.firmware.proofs.prioritize.Statement.{statement}
 use Rattle.firmware.proofs.prioritize.Tie as tie
 
-written-requires : tie.Need-written-requires
-written-requires c κs = search needs
+of-interrupt-requires : tie.Need-of-interrupt-requires
+of-interrupt-requires c κs = search needs
+
+enum-known-pe : tie.Need-enum-known-pe
+enum-known-pe c = search needs
+
+interrupt-at-requires : tie.Need-interrupt-at-requires
+interrupt-at-requires c κs = search needs
+
+set-priority-requires : tie.Need-set-priority-requires
+set-priority-requires c κs = search needs
+
+ready-requires : tie.Need-ready-requires
+ready-requires c κs = search needs
+
+enum-known-reason : tie.Need-enum-known-reason
+enum-known-reason c = search needs
+
+refuse-requires : tie.Need-refuse-requires
+refuse-requires c κs = search needs
 
 returns : tie.Need-returns
-unfolding prioritized
-returns c = search tests
-
-mul-t10 : tie.Need-mul-t10
-mul-t10 c = search needs
-
-arrive-requires : tie.Need-arrive-requires
-arrive-requires c κs = search needs
+returns c = search (by-owner.of-pe, laws.prioritized-to)
 
 returns-2 : tie.Need-returns-2
-unfolding prioritized
-returns-2 c = search tests
-
-written-requires-2 : tie.Need-written-requires-2
-written-requires-2 c κs = search needs
-
-returns-3 : tie.Need-returns-3
-unfolding prioritized
-returns-3 c = search tests
-
-written-requires-3 : tie.Need-written-requires-3
-written-requires-3 c κs = search needs
-
-returns-4 : tie.Need-returns-4
-unfolding prioritized
-returns-4 c = search tests
+returns-2 c = search by-owner.of-nobody
 
 pub prioritize-spec : {M : Type 1} → statement M
 prioritize-spec =
     tie.close
     (tie.spec
-    written-requires
+    of-interrupt-requires
+    enum-known-pe
+    interrupt-at-requires
+    set-priority-requires
+    ready-requires
+    enum-known-reason
+    refuse-requires
     returns
-    mul-t10
-    arrive-requires
-    returns-2
-    written-requires-2
-    returns-3
-    written-requires-3
-    returns-4)
+    returns-2)

@@ -1,5 +1,5 @@
 -- `mmio::access` meets its contract. Assumes nothing.
-use Rattle.mmio.proofs.Laws as laws
+use Rattle.mmio.proofs.MmioLaws as laws
 use borrow.Author.Needs.{needs}
 use Rattle.mmio.proofs.access.Statement.{statement}
 use Rattle.mmio.proofs.access.Tie as tie

@@ -1,5 +1,5 @@
 -- `mmio::ones` meets its contract. Assumes nothing.
-use Rattle.mmio.proofs.Laws as laws
+use Rattle.mmio.proofs.MmioLaws as laws
 use borrow.Author.Needs.{needs}
 use Rattle.mmio.proofs.ones.Statement.{statement}
 use Rattle.mmio.proofs.ones.Tie as tie

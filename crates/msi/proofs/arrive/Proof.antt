@@ -1,5 +1,5 @@
 -- `msi::arrive` meets its contract. Assumes nothing.
-use Rattle.msi.proofs.Laws as laws
+use Rattle.msi.proofs.MsiLaws as laws
 use borrow.Author.Needs.{needs}
 use Rattle.msi.proofs.arrive.Statement.{statement}
 use Rattle.msi.proofs.arrive.Tie as tie

@@ -1,5 +1,5 @@
 -- `msi::deliver` meets its contract. Assumes nothing.
-use Rattle.msi.proofs.Laws as laws
+use Rattle.msi.proofs.MsiLaws as laws
 use Rattle.profile.specs.Msi.{delivered}
 use Rattle.kinds.specs.Tests.{tests}
 use borrow.Author.Needs.{needs}

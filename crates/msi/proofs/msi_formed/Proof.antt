@@ -1,5 +1,5 @@
 -- `msi::msi_formed` meets its contract. Assumes nothing.
-use Rattle.msi.proofs.Laws as laws
+use Rattle.msi.proofs.MsiLaws as laws
 use borrow.Author.Needs.{needs}
 use Rattle.msi.proofs.msi_formed.Statement.{statement}
 use Rattle.msi.proofs.msi_formed.Tie as tie

@@ -5,9 +5,9 @@ use Prim.Native.Nat.{_-_, _*_, _≤_}
 use native.Mathlib.Omega.{arith}
 use lib.ListN.{length}
 use borrow.Author.Needs.{needs}
-use Rattle.layout.specs.Layout.{requestWords, answerWords}
-use Rattle.runs.specs.Run.{runState, ranTo}
-use Rattle.sizes.specs.Tables.{tables, live}
+use Rattle.request_words.specs.Layout.{requestWords, answerWords}
+use Rattle.request_words.specs.Run.{runState, ranTo}
+use Rattle.tables.specs.Tables.{tables, live}
 use Rattle.bridge.proofs.RunLaws as laws
 use Rattle.bridge.proofs.run.run.Statement.{statement}
 use Rattle.bridge.proofs.run.run.Tie as tie

@@ -1,2 +1,0 @@
-// Any request on any tables: its answer, and its effect done.
-pub use step::handle;

@@ -1,0 +1,3 @@
+mod AskLaws
+mod DecideLaws
+mod FormLaws

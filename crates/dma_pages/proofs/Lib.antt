@@ -1,0 +1,2 @@
+pub mod PageLaws
+mod ShapeLaws

@@ -1,0 +1,3 @@
+// The translation of an offset by an entry: the walk of a page table, and what it gives. It knows no PE. Defined in crates/profile/specs/Walk.antt.
+pub mod translate;
+pub mod walk;

@@ -1,2 +1,0 @@
-pub mod Footprint
-pub mod FootprintLaws

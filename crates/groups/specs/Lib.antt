@@ -1,7 +1,0 @@
-pub mod Group
-pub mod GroupLaws
-pub mod Covers
-pub mod Seen
-pub mod SeenLaws
-pub mod SeenAlike
-pub mod ViewLaws

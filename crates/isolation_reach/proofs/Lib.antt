@@ -1,0 +1,3 @@
+mod MembersLaws
+mod IsMemberLaws
+mod MarkingLaws

@@ -1,0 +1,136 @@
+-- What the functions of `isolation_tests` are proved from, a law to a `return` or a turn. Assumes nothing.
+use mathlib.Core.Path.{_≡_, refl}
+use mathlib.Core.Bool.{Bool, true, false}
+use mathlib.Core.List.{List}
+use Prim.Native.Nat.{ℕ, _-_, _*_, _/_, _%_, _<_, _≤_}
+use lib.ListN.{length}
+use borrow.Author.Tests.{lt-leb, le-leb, eq-eqb, ne-eqb}
+use Rattle.kinds.specs.Tests.{clash}
+use Rattle.kinds.specs.Words.{noPe, peAt, bitOf}
+use Rattle.kinds.specs.declared.answer.Reason.{Reason}
+use Rattle.kinds.specs.declared.lookup.Owner.{Owner}
+use Rattle.kinds.specs.declared.lookup.Owner.the-variants.{Of, Nobody}
+use Rattle.kinds.specs.declared.number.PeNumber.{PeNumber}
+use Rattle.kinds.specs.declared.record.Sizes.{Sizes}
+use Rattle.kinds.specs.declared.request.Request.{Request}
+use Rattle.profile.specs.Freeze.{vectorIn}
+use Rattle.profile.specs.Owner.{ownerIn}
+use Rattle.profile.specs.Tables.{mostPes, interruptWords}
+use Rattle.isolation_reach.specs.Member.{memberOf}
+use Rattle.isolation_tests.specs.Group.{flag, ownerNumber, ownerNumberIn, memberListed, listsMember, outsiderLists, anyOutsiderLists, closed}
+use Rattle.isolation_reach.specs.Footprint.{membersMarks}
+use Rattle.isolation_reach.specs.FootprintLaws.{marks-exact}
+use Rattle.isolation_tests.specs.Covers.{coverable, Covered}
+use Rattle.isolation_tests.specs.Seen.{interruptSeen}
+
+pub flag-set : {b : Bool} → b ≡ true → 1 ≡ flag b
+unfolding flag
+flag-set o = rw o
+
+pub flag-clear : {b : Bool} → b ≡ false → 0 ≡ flag b
+unfolding flag
+flag-clear o = rw o
+
+pub flag-is : {b c : Bool} {r : ℕ} → b ≡ c → r ≡ flag b → r ≡ flag c
+flag-is e h = rw (← e) h
+
+-- ---- owners
+
+pub owner-of-pe : {o : Owner} {p : PeNumber} → o ≡ Of p → p .0 ≡ ownerNumber o
+unfolding ownerNumber
+owner-of-pe e = rw e
+
+pub owner-nobody : {o : Owner} {r : Reason} → o ≡ Nobody r → noPe ≡ ownerNumber o
+unfolding ownerNumber
+owner-nobody e = rw e
+
+module _ (z : Sizes) (r w s l : List ℕ) (q : Request) where
+  pub owner-past : mostPes < z .pes → noPe ≡ ownerNumberIn z r w s l q
+  unfolding ownerNumberIn
+  owner-past h = rw (lt-leb _ _ h)
+
+  pub owner-decoded : {x : Request} {o : Owner} {n : ℕ} → z .pes ≤ mostPes → x ≡ q → o ≡ ownerIn z r w s l x → n ≡ ownerNumber o → n ≡ ownerNumberIn z r w s l q
+  unfolding ownerNumberIn
+  owner-decoded h e i f = rw (le-leb _ _ h, ← e, ← i) f
+
+-- ---- closed groups
+
+module _ (g v : List ℕ) (k : ℕ) {b : Bool} (asked : b ≡ memberOf g k) where
+  pub listed-member : {r : Bool} → b ≡ true → r ≡ bitOf v k → r ≡ memberListed g v k
+  unfolding memberListed
+  listed-member o h = rw (← asked, o) h
+
+  pub listed-other : b ≡ false → false ≡ memberListed g v k
+  unfolding memberListed
+  listed-other o = rw (← asked, o)
+
+module _ (g l : List ℕ) (n p : ℕ) {b : Bool} (asked : b ≡ memberOf g p) where
+  pub outsider-member : b ≡ true → false ≡ outsiderLists g l n p
+  unfolding outsiderLists
+  outsider-member o = rw (← asked, o)
+
+  pub outsider-other : {v : List ℕ} {r : Bool} → b ≡ false → v ≡ vectorIn l (record { 0 = p }) → r ≡ listsMember g v n → r ≡ outsiderLists g l n p
+  unfolding outsiderLists
+  outsider-other o e h = rw (← asked, o, ← e) h
+
+module _ (n : ℕ) (g l : List ℕ) {b : Bool} where
+  pub closed-broken : n ≤ mostPes → b ≡ anyOutsiderLists g l n → b ≡ true → 0 ≡ flag (closed n g l)
+  unfolding closed flag
+  closed-broken h e o = rw (le-leb _ _ h, ← e, o)
+
+  pub closed-kept : n ≤ mostPes → b ≡ anyOutsiderLists g l n → b ≡ false → 1 ≡ flag (closed n g l)
+  unfolding closed flag
+  closed-kept h e o = rw (le-leb _ _ h, ← e, o)
+
+pub closed-unknown : (n : ℕ) (g l : List ℕ) → mostPes < n → 0 ≡ flag (closed n g l)
+unfolding closed flag
+closed-unknown n g l h = rw (lt-leb _ _ h)
+
+-- ---- marks
+
+module _ (g : List ℕ) (n : ℕ) (l m r t u : List ℕ) where
+  not-covered : coverable n r t u m ≡ false → Covered g n l m r t u 0 r
+  unfolding flag
+  not-covered o = record {
+    tells = rw o;
+    exact = λ p. clash p o;
+    kept = λ p. refl;
+  }
+
+  pub covers-past : mostPes < n → Covered g n l m r t u 0 r
+  covers-past h = not-covered (unfold coverable in rw (lt-leb n mostPes h))
+
+  module _ (h : n ≤ mostPes) where
+    pub covers-marks : (length r ≡ length m → ⊥) → Covered g n l m r t u 0 r
+    covers-marks i = not-covered (unfold coverable in rw (le-leb n mostPes h, ne-eqb (length r) (length m) i))
+
+    module _ (i : length r ≡ length m) where
+      pub covers-tables : (length t ≡ length m → ⊥) → Covered g n l m r t u 0 r
+      covers-tables j = not-covered (unfold coverable in rw (le-leb n mostPes h, eq-eqb (length r) (length m) i, ne-eqb (length t) (length m) j))
+
+      module _ (j : length t ≡ length m) where
+        pub covers-under : (length u ≡ length m → ⊥) → Covered g n l m r t u 0 r
+        covers-under k =
+            not-covered (unfold coverable in rw (le-leb n mostPes h, eq-eqb (length r) (length m) i, eq-eqb (length t) (length m) j, ne-eqb (length u) (length m) k))
+
+        pub covers-all : {s : List ℕ} → length u ≡ length m → s ≡ membersMarks (length t) (length u) g l m n (length r) → Covered g n l m r t u 1 s
+        unfolding flag
+        covers-all k e =
+            let fit : coverable n r t u m ≡ true =
+            unfold coverable in rw (le-leb n mostPes h, eq-eqb (length r) (length m) i, eq-eqb (length t) (length m) j, eq-eqb (length u) (length m) k) in
+            record {
+              tells = rw fit;
+              exact = λ p. rw (e, i, j, k) (marks-exact g l m n);
+              kept = λ p. clash fit p;
+            }
+
+-- ---- words that are public or the group's
+
+module _ (g l : List ℕ) (i : ℕ) where
+  pub interrupt-pe : i % interruptWords ≡ 0 → true ≡ interruptSeen g l i
+  unfolding interruptSeen
+  interrupt-pe h = rw (eq-eqb _ 0 h)
+
+  pub interrupt-own : {w : ℕ} {b : Bool} → (i % interruptWords ≡ 0 → ⊥) → w ≡ peAt l (i / interruptWords * interruptWords) → b ≡ memberOf g w → b ≡ interruptSeen g l i
+  unfolding interruptSeen
+  interrupt-own h e p = rw (ne-eqb _ 0 h, ← e) p

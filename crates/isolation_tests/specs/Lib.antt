@@ -1,0 +1,7 @@
+pub mod Covers
+pub mod Group
+pub mod GroupLaws
+pub mod Seen
+pub mod SeenAlike
+pub mod SeenLaws
+pub mod ViewLaws

@@ -1,0 +1,34 @@
+-- Two bridges that agree in the words that are public or the group's.
+--     tableOf a n         table n of bridge a, in the order of 01's list
+--     seenOf n i x        what counts of word i, of value x, of table n: of a stop word the lowest two bits, of another word all
+--     SeenAlike g t a b   sizes and lengths are equal, and so is what counts of every word that is seen in the first bridge, t being the marks of its
+--                         memory
+-- Assumes nothing.
+use mathlib.Core.Path.{_≡_}
+use mathlib.Core.Bool.{true, cond}
+use mathlib.Core.List.{List, []}
+use Prim.Native.Nat.{ℕ, zero, suc}
+use lib.Dec.{eqb}
+use Rattle.kinds.specs.Words.{at}
+use Rattle.isolation.specs.View.{Bridge, bridgeLengths}
+use Rattle.profile.specs.Agree.{seenWord}
+use Rattle.isolation_tests.specs.Seen.{seen}
+
+abbrev pub tableOf : Bridge → ℕ → List ℕ
+tableOf a zero = a .tables .requesters
+tableOf a (suc zero) = a .tables .entries
+tableOf a (suc (suc zero)) = a .memory
+tableOf a (suc (suc (suc zero))) = a .tables .peers
+tableOf a (suc (suc (suc (suc zero)))) = a .live .interrupts
+tableOf a (suc (suc (suc (suc (suc zero))))) = a .tables .windows
+tableOf a (suc (suc (suc (suc (suc (suc zero)))))) = a .tables .segments
+tableOf a (suc (suc (suc (suc (suc (suc (suc zero))))))) = a .live .state
+tableOf a (suc (suc (suc (suc (suc (suc (suc (suc n)))))))) = []
+
+abbrev pub seenOf : (table index word : ℕ) → ℕ
+seenOf n i x = cond (eqb n 7) (seenWord i x) x
+
+pub record SeenAlike (g t : List ℕ) (a b : Bridge) : Type 0 where
+  pub sizes : a .tables .sizes ≡ b .tables .sizes
+  pub all-lengths : bridgeLengths a ≡ bridgeLengths b
+  pub words : (n i : ℕ) → seen g (a .live .interrupts) t n i ≡ true → seenOf n i (at (tableOf a n) i) ≡ seenOf n i (at (tableOf b n) i)

@@ -1,0 +1,134 @@
+// The functions that Rust and C call: numbers and slices only. A slice passes as its first element's address and its length.
+use crate::closed;
+use crate::seen;
+use isolation_reach::footprint;
+use isolation_reach::members;
+use kinds::lookup::Owner;
+use kinds::number::NO_PE;
+use owners;
+use profile::limits::MOST_PES;
+use request_words::layout;
+ghost use mathlib.Core.Path.{_≡_};
+ghost use Rattle.request_words.specs.Layout.{decoded};
+ghost use Rattle.isolation_tests.specs.Group.{flag, ownerNumber, ownerNumberIn, closed};
+ghost use Rattle.isolation_reach.specs.Member.{memberOf};
+ghost use Rattle.isolation_tests.specs.Covers.{Covered};
+ghost use Rattle.isolation_tests.specs.Seen.{seen};
+
+fn flag(test: bool) -> u64
+    ensures { λ r. ⌜ r ≡ flag test ⌝ }
+{
+    if test {
+        return 1;
+    }
+    0
+}
+
+fn owner_number(owner: Owner) -> u64
+    ensures { λ r. ⌜ r ≡ ownerNumber owner ⌝ }
+{
+    match owner {
+        Owner::Of(pe) => pe.0 as u64,
+        Owner::Nobody(_) => NO_PE,
+    }
+}
+
+// The number of the PE that owns the request of six words. 65,536 for nobody, and where N is above its limit. N, M and R come first.
+#[no_mangle]
+pub extern "C" fn celltimber_owner(
+    pes: u64,
+    interrupt_count: u64,
+    requester_count: u64,
+    requesters: &[u16],
+    interrupts: &[u64],
+    windows: &[u64],
+    segments: &[u16],
+    kind: u64,
+    a: u64,
+    b: u64,
+    c: u64,
+    d: u64,
+    e: u64,
+) -> u64
+    ensures { λ r. ⌜ r ≡ ownerNumberIn (record { pes = pes; interrupts = «interrupt_count»; requesters = «requester_count» }) (now (requesters .entry)) (now (windows .entry)) (now (segments .entry)) (now (interrupts .entry)) (decoded kind a b c d e) ⌝ }
+{
+    if MOST_PES < pes {
+        return NO_PE;
+    }
+    owner_number(owners::owner_of(
+        pes as u16,
+        interrupt_count,
+        requester_count,
+        requesters,
+        interrupts,
+        windows,
+        segments,
+        layout::decode(kind, a, b, c, d, e),
+    ))
+}
+
+// 1 if the number is that of a member of the group, else 0.
+#[no_mangle]
+pub extern "C" fn celltimber_member(group: &[u64], number: u64) -> u64
+    ensures { λ r. ⌜ r ≡ flag (memberOf (now (group .entry)) number) ⌝ }
+{
+    flag(members::is_member(group, number))
+}
+
+// 1 if no PE below N outside the group lists a member below N in its peer vector, else 0. 0 also where N is above its limit.
+#[no_mangle]
+pub extern "C" fn celltimber_closed(pes: u64, peers: &[u64], group: &[u64]) -> u64
+    ensures { λ r. ⌜ r ≡ flag (closed pes (now (group .entry)) (now (peers .entry))) ⌝ }
+{
+    if MOST_PES < pes {
+        return 0;
+    }
+    if closed::any_outsider_lists(group, peers, pes as u16) {
+        return 0;
+    }
+    1
+}
+
+// Marks exactly the memory words that a walk of a member below N reads for some address of the DMA class: each other word of `marks` becomes 0. `tables` and
+// `under` are overwritten. 1, or 0 where N is above its limit or one of the three has not the length of memory; `marks` is then as it was.
+#[no_mangle]
+pub extern "C" fn celltimber_covers(
+    pes: u64,
+    entries: &[u64],
+    memory: &[u64],
+    group: &[u64],
+    marks: &mut [u64],
+    tables: &mut [u64],
+    under: &mut [u64],
+) -> u64
+    ensures { λ r. ⌜ Covered (now (group .entry)) pes (now (entries .entry)) (now (memory .entry)) (now (marks .entry)) (now (tables .entry)) (now (under .entry)) r (now (marks .exit)) ⌝ }
+{
+    if MOST_PES < pes {
+        return 0;
+    }
+    if marks.len() == memory.len() {
+        if tables.len() == memory.len() {
+            if under.len() == memory.len() {
+                footprint::mark_members(pes as u16, group, entries, memory, marks, tables, under);
+                return 1;
+            }
+            return 0;
+        }
+        return 0;
+    }
+    0
+}
+
+// 1 if word `index` of a table is public or the group's, else 0.
+#[no_mangle]
+pub extern "C" fn celltimber_seen(
+    interrupts: &[u64],
+    marks: &[u64],
+    group: &[u64],
+    table: u64,
+    index: usize,
+) -> u64
+    ensures { λ r. ⌜ r ≡ flag (seen (now (group .entry)) (now (interrupts .entry)) (now (marks .entry)) table index) ⌝ }
+{
+    flag(seen::is_seen(group, interrupts, marks, table, index))
+}

@@ -1,0 +1,54 @@
+// Which table words are public or the group's. Tables are numbered from 0 in the order of document 01.
+use isolation_reach::marks;
+use isolation_reach::members;
+use profile::limits;
+use profile::limits::ENTRY_WORDS;
+use profile::limits::STATE_WORDS;
+use tables::words;
+ghost use mathlib.Core.Path.{_≡_};
+ghost use Rattle.isolation_tests.specs.Seen.{interruptSeen, seen};
+
+const ENTRIES: u64 = 1;
+
+const MEMORY: u64 = 2;
+
+const INTERRUPTS: u64 = 4;
+
+const STATE: u64 = 7;
+
+const INTERRUPT_WORDS: usize = limits::INTERRUPT_WORDS as usize;
+
+// The PE word of an interrupt is public, the other words are its PE's.
+fn interrupt_seen(group: &[u64], interrupts: &[u64], index: usize) -> bool
+    ensures { λ r. ⌜ r ≡ interruptSeen (now (group .entry)) (now (interrupts .entry)) index ⌝ }
+{
+    if index % INTERRUPT_WORDS == 0 {
+        return true;
+    }
+    let pe = words::pe_word(interrupts, index / INTERRUPT_WORDS * INTERRUPT_WORDS);
+    members::is_member(group, pe)
+}
+
+pub(crate) fn is_seen(
+    group: &[u64],
+    interrupts: &[u64],
+    marks: &[u64],
+    table: u64,
+    index: usize,
+) -> bool
+    ensures { λ r. ⌜ r ≡ seen (now (group .entry)) (now (interrupts .entry)) (now (marks .entry)) table index ⌝ }
+{
+    if table == ENTRIES {
+        return members::is_member(group, index as u64 / ENTRY_WORDS);
+    }
+    if table == MEMORY {
+        return marks::has_mark(marks, index);
+    }
+    if table == INTERRUPTS {
+        return interrupt_seen(group, interrupts, index);
+    }
+    if table == STATE {
+        return members::is_member(group, index as u64 / STATE_WORDS);
+    }
+    true
+}

@@ -1,4 +1,0 @@
-pub mod EncodedLaws
-pub mod Layout
-pub mod LayoutCases
-pub mod LayoutLaws

@@ -1,4 +1,0 @@
-pub mod Any
-pub mod AnyLaws
-pub mod Member
-pub mod MemberLaws

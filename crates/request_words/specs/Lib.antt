@@ -1,0 +1,10 @@
+pub mod EncodedLaws
+pub mod Layout
+pub mod LayoutCases
+pub mod LayoutLaws
+pub mod Run
+pub mod RunIsolation
+pub mod RunLaws
+pub mod RunOfList
+pub mod RunWitness
+pub mod WordCases

@@ -1,0 +1,26 @@
+-- `tables::words::short_pe_word` meets its contract. Assumes nothing.
+use borrow.Author.Needs.{needs}
+use native.Mathlib.Omega.{arith}
+use Rattle.kinds.specs.WordsLaws.{pe-in}
+use Rattle.tables.proofs.WordLaws as laws
+use Rattle.tables.proofs.words.short_pe_word.Statement.{statement}
+use Rattle.tables.proofs.words.short_pe_word.Tie as tie
+
+mul-result : tie.Need-mul-result
+mul-result c = search needs
+
+shared-slice-read-result : tie.Need-shared-slice-read-result
+shared-slice-read-result c = search needs
+
+cast-result : tie.Need-cast-result
+cast-result c = omega (arith, c .shared-slice-known .given (c .before .before .args .index))
+
+returns : tie.Need-returns
+returns c = search pe-in
+
+returns-2 : tie.Need-returns-2
+returns-2 c = search laws.pe-out
+
+pub short-pe-word-spec : {M : Type 1} → statement M
+short-pe-word-spec =
+    tie.close (tie.spec mul-result shared-slice-read-result cast-result returns returns-2)
