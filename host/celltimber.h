@@ -20,7 +20,8 @@
  *   write at any time are copied first.
  *
  * Threads. Nothing is kept between calls: there are no variables outside the slices, no allocation, and no calls of the C library but memset in
- * celltimber_covers. Calls may run at the same time if no slice that one of them writes is lent to another. So each bridge has a state and interrupts of its own, and is served by one thread at a time.
+ * celltimber_covers. Calls may run at the same time if no slice that one of them writes is lent to another. So each bridge has a state and interrupts of its
+ * own, and is served by one thread at a time.
  */
 #ifndef CELLTIMBER_H
 #define CELLTIMBER_H
