@@ -1,5 +1,4 @@
-// A DMA of a PE: its checks before memory is read, by the stop bits of the PE, the class of its address and the entry that it picks, and its outcome by the
-// walk of its page. Defined in crates/profile/specs/Step.antt.
+// A DMA of a PE: its checks before memory is read, and its outcome by the walk of its page. Defined in crates/profile/specs/Step.antt.
 use dma_entry::addresses;
 use dma_entry::ask;
 use dma_entry::ask::Way;

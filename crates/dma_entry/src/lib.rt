@@ -1,4 +1,3 @@
-// What an address of a DMA picks, its class, a translation entry of its PE and the offset, and what the entry says of it before memory is read.
-// Defined in crates/profile/specs/Entry.antt.
+// What an address of a DMA picks, and what the entry says of it before memory is read. Defined in crates/profile/specs/Entry.antt.
 pub mod addresses;
 pub mod ask;

@@ -1,5 +1,4 @@
-// Groups of PEs as bit vectors, and marks on the memory words that the walks of a group's members read.
-// Defined in crates/isolation_reach/specs/Footprint.antt, with Member.antt and Marks.antt beside it.
+// Groups of PEs, and marks on the memory words that walks of their members read. Defined in crates/isolation_reach/specs/Footprint.antt.
 pub mod footprint;
 mod levels;
 mod lists;

@@ -1,5 +1,5 @@
-// The kinds of value: addresses, page and PE numbers, requests, answers, effects, records of the tables; the forms of an outcome and of a check, and an answer
-// in numbers. Nothing here depends on the profile. Defined in specs/Answer.antt and specs/Outcome.antt.
+// The kinds of value: numbers, requests, answers, effects, records of the tables. Defined in crates/kinds/specs/Answer.antt, Outcome.antt and Number.antt.
+// Nothing here depends on the profile.
 pub mod answer;
 pub mod lookup;
 pub mod number;

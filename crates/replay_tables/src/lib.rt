@@ -1,5 +1,4 @@
-// The lent tables of a replay: how many words of them are in use, a word of them set, all of them cleared for new sizes.
-// Defined in crates/replay_tables/specs/Lent.antt.
+// The lent tables of a replay: the words in use, one of them set, all cleared for new sizes. Defined in crates/replay_tables/specs/Lent.antt.
 mod size;
 mod table;
 

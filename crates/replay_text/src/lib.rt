@@ -1,5 +1,4 @@
-// The replay text: what it says by its definition, and the types that the definition shares with the code.
-// It stands in specs/, from Replay.antt down.
+// The replay text: its definition, in specs/ from Replay.antt down, and the types that it shares with the code.
 use kinds::answer::Numbers;
 use kinds::request::Request;
 

@@ -1,4 +1,4 @@
-// Requests and answers as words: the layout that `bridge::run` reads and writes, lists of them, and what a run over a list is. The last, with demand 3 of it,
-// stands in specs/. Defined in specs/Layout.antt and specs/Run.antt.
+// Requests and answers as words, lists of them, and runs over lists. Defined in crates/request_words/specs/Layout.antt and Run.antt.
+// Demand 3 of a run over words stands there too.
 pub mod layout;
 pub mod word_lists;

@@ -1,5 +1,5 @@
-// The fields of a line of replay text, from left to right. A field ends at a tab or at the end of the line; the next one is found from there.
-// Defined in crates/replay_text/specs/Field.antt.
+// The fields of a line of replay text, from left to right. Defined in crates/replay_text/specs/Field.antt.
+// A field ends at a tab or at the end of the line; the next one is found from there.
 mod name;
 mod number;
 mod place;
