@@ -238,8 +238,8 @@ uint64_t celltimber_closed(
 
 /*
  * Marks exactly the memory words that a walk of a member below N reads for some address of the DMA class: marks[j] is not 0 if memory word j is one, and is 0
- * if not. Gives 1; or 0 where N is above its limit, or where marks, tables or under has not the length of memory: marks is then as it was. The words of tables
- * and under are room to work in, and are overwritten.
+ * if not. The words of tables and under are room to work in, and become 0. Gives 1; or 0 where N is above its limit, or where marks, tables or under has not
+ * the length of memory: all three are then as they were.
  */
 uint64_t celltimber_covers(
     uint64_t pes,

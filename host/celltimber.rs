@@ -336,8 +336,8 @@ pub fn closed(pes: u64, peers: &[u64], group: &[u64]) -> bool {
 }
 
 /// Marks exactly the memory words that a walk of a member reads: a mark is not 0. `tables` and `under`
-/// are overwritten. False, with `marks` as they were, where N is above its limit or one of the three
-/// has not the length of memory.
+/// are room to work in and become 0. False, with all three as they were, where N is above its limit or
+/// one of the three has not the length of memory.
 pub fn covers(
     pes: u64,
     entries: &[u64],

@@ -288,6 +288,9 @@ static void groups(void)
         lent.group[0] = members[k];
         printf("group %" PRIx64 ": closed %" PRIu64 ", covers %" PRIu64, members[k],
             celltimber_closed(PES, lent.peers, LENGTH(lent.peers), lent.group, LENGTH(lent.group)), covers(PES, LENGTH(lent.marks)));
+        for (index = 0; index < MEMORY; index++)
+            if (lent.tables[index] != 0 || lent.under[index] != 0)
+                fail("the lists that celltimber_covers is lent to work in");
         printf(", too many PEs %" PRIu64 ", a mark short %" PRIu64 "\nmarks", covers(CELLTIMBER_MOST_PES + 1, LENGTH(lent.marks)),
             covers(PES, LENGTH(lent.marks) - 1));
         for (index = 0; index < LENGTH(lent.marks); index++)

@@ -10,7 +10,7 @@ ghost use lib.ListN.{length};
 ghost use Rattle.kinds.specs.Turns.{turns};
 ghost use Rattle.isolation_reach.specs.Marks.{marksBy};
 ghost use Rattle.profile.specs.Entry.{entryIn, half};
-ghost use Rattle.isolation_reach.specs.Footprint.{peTurn, membersMarks};
+ghost use Rattle.isolation_reach.specs.Footprint.{peTurn, Emptied, MembersMarked};
 
 // An address that picks the second record of a PE.
 const SECOND: u64 = 0x800_0000_0000_0000;
@@ -81,8 +81,15 @@ fn mark_pes(
     }
 }
 
-// Marks the words that walks of members read, and no others. `tables` and `under` are overwritten; nothing is marked where they have not the length of
-// memory.
+// A list that was lent to work in, as it is given back.
+fn empty(list: &mut [u64])
+    ensures { λ _. ⌜ Emptied (now (list .entry)) (now (list .exit)) ⌝ }
+{
+    lists::clear(list);
+}
+
+// Marks the words that walks of members read, and no others. `tables` and `under` are room to work in and become 0; nothing is marked where they have not
+// the length of memory.
 pub fn mark_members(
     pes: u16,
     group: &[u64],
@@ -92,12 +99,14 @@ pub fn mark_members(
     tables: &mut [u64],
     under: &mut [u64],
 )
-    ensures { λ _. ⌜ now (marks .exit) ≡ membersMarks (length (now (tables .entry))) (length (now (under .entry))) (now (group .entry)) (now (entries .entry)) (now (memory .entry)) pes (length (now (marks .entry))) ⌝ }
+    ensures { λ _. ⌜ MembersMarked pes (now (group .entry)) (now (entries .entry)) (now (memory .entry)) (now (marks .entry)) (now (tables .entry)) (now (under .entry)) (now (marks .exit)) (now (tables .exit)) (now (under .exit)) ⌝ }
 {
     lists::clear(marks);
     if tables.len() == memory.len() {
         if under.len() == memory.len() {
             mark_pes(pes, group, entries, memory, marks, tables, under);
+            empty(tables);
+            empty(under);
             return;
         }
         return;

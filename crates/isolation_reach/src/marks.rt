@@ -115,7 +115,7 @@ fn mark_pages(
 }
 
 // The same; nothing is marked where `tables` and `under` have not the length of memory.
-pub fn mark_entry(
+pub(crate) fn mark_entry(
     memory: &[u64],
     entry: TranslationEntry,
     half: u64,

@@ -18,7 +18,7 @@ use Rattle.profile.specs.Owner.{ownerIn}
 use Rattle.profile.specs.Tables.{mostPes, interruptWords}
 use Rattle.isolation_reach.specs.Member.{memberOf}
 use Rattle.isolation_tests.specs.Group.{flag, ownerNumber, ownerNumberIn, memberListed, listsMember, outsiderLists, anyOutsiderLists, closed}
-use Rattle.isolation_reach.specs.Footprint.{membersMarks}
+use Rattle.isolation_reach.specs.Footprint.{roomAfter, MembersMarked}
 use Rattle.isolation_reach.specs.FootprintLaws.{marks-exact}
 use Rattle.isolation_tests.specs.Covers.{coverable, Covered}
 use Rattle.isolation_tests.specs.Seen.{interruptSeen}
@@ -89,39 +89,37 @@ closed-unknown n g l h = rw (lt-leb _ _ h)
 -- ---- marks
 
 module _ (g : List ℕ) (n : ℕ) (l m r t u : List ℕ) where
-  not-covered : coverable n r t u m ≡ false → Covered g n l m r t u 0 r
+  not-covered : coverable n r t u m ≡ false → Covered g n l m r t u 0 r t u
   unfolding flag
-  not-covered o = record {
-    tells = rw o;
-    exact = λ p. clash p o;
-    kept = λ p. refl;
-  }
+  not-covered o = record { returns = rw o; marks = rw o; tables = rw o; under = rw o; exact = λ p. clash p o }
 
-  pub covers-past : mostPes < n → Covered g n l m r t u 0 r
+  pub covers-past : mostPes < n → Covered g n l m r t u 0 r t u
   covers-past h = not-covered (unfold coverable in rw (lt-leb n mostPes h))
 
   module _ (h : n ≤ mostPes) where
-    pub covers-marks : (length r ≡ length m → ⊥) → Covered g n l m r t u 0 r
+    pub covers-marks : (length r ≡ length m → ⊥) → Covered g n l m r t u 0 r t u
     covers-marks i = not-covered (unfold coverable in rw (le-leb n mostPes h, ne-eqb (length r) (length m) i))
 
     module _ (i : length r ≡ length m) where
-      pub covers-tables : (length t ≡ length m → ⊥) → Covered g n l m r t u 0 r
+      pub covers-tables : (length t ≡ length m → ⊥) → Covered g n l m r t u 0 r t u
       covers-tables j = not-covered (unfold coverable in rw (le-leb n mostPes h, eq-eqb (length r) (length m) i, ne-eqb (length t) (length m) j))
 
       module _ (j : length t ≡ length m) where
-        pub covers-under : (length u ≡ length m → ⊥) → Covered g n l m r t u 0 r
+        pub covers-under : (length u ≡ length m → ⊥) → Covered g n l m r t u 0 r t u
         covers-under k =
             not-covered (unfold coverable in rw (le-leb n mostPes h, eq-eqb (length r) (length m) i, eq-eqb (length t) (length m) j, ne-eqb (length u) (length m) k))
 
-        pub covers-all : {s : List ℕ} → length u ≡ length m → s ≡ membersMarks (length t) (length u) g l m n (length r) → Covered g n l m r t u 1 s
-        unfolding flag
-        covers-all k e =
+        pub covers-all : {x v w : List ℕ} → length u ≡ length m → MembersMarked n g l m r t u x v w → Covered g n l m r t u 1 x v w
+        unfolding flag roomAfter
+        covers-all k d =
             let fit : coverable n r t u m ≡ true =
             unfold coverable in rw (le-leb n mostPes h, eq-eqb (length r) (length m) i, eq-eqb (length t) (length m) j, eq-eqb (length u) (length m) k) in
             record {
-              tells = rw fit;
-              exact = λ p. rw (e, i, j, k) (marks-exact g l m n);
-              kept = λ p. clash fit p;
+              returns = rw fit;
+              marks = rw fit (d .marks);
+              tables = rw fit (rw (eq-eqb (length t) (length m) j, eq-eqb (length u) (length m) k) at (d .tables));
+              under = rw fit (rw (eq-eqb (length t) (length m) j, eq-eqb (length u) (length m) k) at (d .under));
+              exact = λ p. rw (d .marks, i, j, k) (marks-exact g l m n);
             }
 
 -- ---- words that are public or the group's

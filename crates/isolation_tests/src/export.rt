@@ -90,7 +90,7 @@ pub extern "C" fn celltimber_closed(pes: u64, peers: &[u64], group: &[u64]) -> u
 }
 
 // Marks exactly the memory words that a walk of a member below N reads for some address of the DMA class: each other word of `marks` becomes 0. `tables` and
-// `under` are overwritten. 1, or 0 where N is above its limit or one of the three has not the length of memory; `marks` is then as it was.
+// `under` are room to work in and become 0. 1, or 0 where N is above its limit or one of the three has not the length of memory; all three are then as they were.
 #[no_mangle]
 pub extern "C" fn celltimber_covers(
     pes: u64,
@@ -101,7 +101,7 @@ pub extern "C" fn celltimber_covers(
     tables: &mut [u64],
     under: &mut [u64],
 ) -> u64
-    ensures { λ r. ⌜ Covered (now (group .entry)) pes (now (entries .entry)) (now (memory .entry)) (now (marks .entry)) (now (tables .entry)) (now (under .entry)) r (now (marks .exit)) ⌝ }
+    ensures { λ r. ⌜ Covered (now (group .entry)) pes (now (entries .entry)) (now (memory .entry)) (now (marks .entry)) (now (tables .entry)) (now (under .entry)) r (now (marks .exit)) (now (tables .exit)) (now (under .exit)) ⌝ }
 {
     if MOST_PES < pes {
         return 0;
