@@ -41,7 +41,7 @@ fn access_formed(address: ByteAddress, width: u64) -> bool
 }
 
 // Whether a request is well formed, as far as it says itself.
-pub fn is_formed(request: Request) -> bool
+pub(crate) fn is_formed(request: Request) -> bool
     ensures { λ r. ⌜ r ≡ formed request ⌝ }
 {
     match request {

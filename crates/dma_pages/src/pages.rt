@@ -7,7 +7,7 @@ ghost use Prim.Native.Nat.{_%_, _^_};
 ghost use Rattle.kinds.specs.Number.{pageBits, pageNumber, byteAddress};
 
 // The number of address bits inside a page.
-pub fn page_bits(size: PageSize) -> u32
+pub(crate) fn page_bits(size: PageSize) -> u32
     ensures { λ r. ⌜ r ≡ pageBits size ⌝ }
 {
     match size {

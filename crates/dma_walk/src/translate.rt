@@ -42,7 +42,12 @@ pub fn translate(
 }
 
 // What a walk found, for an offset. No memory is lent.
-pub fn land(size: PageSize, direction: Direction, offset: ByteAddress, found: Found) -> Translated
+pub(crate) fn land(
+    size: PageSize,
+    direction: Direction,
+    offset: ByteAddress,
+    found: Found,
+) -> Translated
     ensures { λ r. ⌜ r ≡ landed size direction offset found ⌝ }
 {
     match found {
@@ -79,7 +84,7 @@ fn land_in(
 }
 
 // Bit 0 is read-valid, bit 1 write-valid.
-pub fn allows(direction: Direction, word: u64) -> bool
+pub(crate) fn allows(direction: Direction, word: u64) -> bool
     ensures { λ r. ⌜ r ≡ allows direction word ⌝ }
 {
     match direction {

@@ -66,7 +66,7 @@ fn ended(number: u64, interrupt: Interrupt) -> Outcome
 }
 
 // The end of an interrupt whose number and PE are good.
-pub fn end_interrupt(number: u64, interrupt: Interrupt) -> Outcome
+pub(crate) fn end_interrupt(number: u64, interrupt: Interrupt) -> Outcome
     ensures { λ r. ⌜ r ≡ onGood interrupt (ends number interrupt) ⌝ }
 {
     if in_range(interrupt) {
@@ -102,7 +102,7 @@ fn prioritized(number: u64, next: u64, interrupt: Interrupt) -> Outcome
 }
 
 // A new priority of an interrupt whose number and PE are good.
-pub fn set_priority(number: u64, priority: u64, interrupt: Interrupt) -> Outcome
+pub(crate) fn set_priority(number: u64, priority: u64, interrupt: Interrupt) -> Outcome
     ensures { λ r. ⌜ r ≡ onGood interrupt (prioritized number priority interrupt) ⌝ }
 {
     if in_range(interrupt) {

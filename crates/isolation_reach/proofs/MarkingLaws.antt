@@ -8,7 +8,7 @@ use native.Mathlib.Numerals.{add-one}
 use native.Mathlib.Omega.{arith}
 use lib.Bits.{bitAnd}
 use lib.Dec.{leb}
-use lib.ListN.{length, length-set, set, take, replicate, replicate-append-replicate}
+use lib.ListN.{length, length-set, set, take, replicate}
 use lib.Seq.{take-all, take-suc, take-suc-set}
 use borrow.Author.Tests.{lt-ltb, le-ltb, le-leb, lt-leb, eq-eqb, ne-eqb}
 use Rattle.kinds.specs.Powers.{one-shl-pos, masked}
@@ -39,14 +39,6 @@ module _ (t : List ℕ) (i : ℕ) {w : ℕ} (read : w ≡ at t i) where
   mark-some h = rw (← read, ne-eqb _ 0 h)
 
 -- ---- lists as a whole
-
-pub cleared-more : (l : List ℕ) (i : ℕ) → i < length l → take i l ≡ replicate i 0 → take (i + 1) (set l i 0) ≡ replicate (i + 1) 0
-cleared-more l i h e = rw (add-one i, take-suc-set l i 0 h, e) (replicate-append-replicate i 1 0 ∙ rw (add-one i))
-
-pub cleared-all : (l k : List ℕ) (i : ℕ) → length l ≡ length k → length l ≤ i → i ≤ length k → take i l ≡ replicate i 0 → l ≡ replicate (length k) 0
-cleared-all l k i e g h z =
-    let n : i ≡ length k = omega arith in
-    sym (take-all i l g) ∙ z ∙ rw n
 
 pub copied-more : (l k : List ℕ) (i : ℕ) → i < length l → length l ≡ length k → take i l ≡ take i k → take (i + 1) (set l i (at k i)) ≡ take (i + 1) k
 copied-more l k i h e z = rw (add-one i, take-suc-set l i (at k i) h, take-suc k i 0 (omega arith), z)

@@ -1,10 +1,10 @@
 // Marks on the memory words that the walks of a group's members read for an address of the DMA class.
-use crate::lists;
 use crate::marks;
 use crate::members;
 use dma_entry::addresses;
 use kinds::number::ByteAddress;
 use kinds::number::PeNumber;
+use tables::lists;
 ghost use mathlib.Core.Path.{_≡_};
 ghost use lib.ListN.{length};
 ghost use Rattle.kinds.specs.Turns.{turns};

@@ -1,8 +1,8 @@
 // The words of the tables of one level, and the tables that they lead to.
-use crate::lists;
 use crate::marks;
 use dma_pages::page_tables::aligned;
 use kinds::number::ByteAddress;
+use tables::lists;
 use tables::words;
 ghost use mathlib.Core.Path.{_≡_};
 ghost use Prim.Native.Nat.{_+_, _*_, _<_, _≤_};
@@ -149,6 +149,17 @@ fn mark_tables(
     }
 }
 
+fn copy(to: &mut [u64], from: &[u64])
+    requires { ⌜ length (now to) ≡ length (now from) ⌝ }
+    ensures { λ _. ⌜ now (to .exit) ≡ now (from .entry) ⌝ }
+{
+    let mut i = 0;
+    while i < to.len() {
+        to[i] = from[i];
+        i += 1;
+    }
+}
+
 // A level that has levels below it: marks its words, and `tables` becomes the tables below. The result is the table that the word at `index` leads to.
 fn mark_upper(
     memory: &[u64],
@@ -165,7 +176,7 @@ fn mark_upper(
     mark_words(tables, marks, memory.len(), bits, table, index, 0);
     lists::clear(under);
     mark_tables(memory, tables, under, bits, table, index);
-    lists::copy(tables, under);
+    copy(tables, under);
     leads_to(memory, bits, table, index)
 }
 

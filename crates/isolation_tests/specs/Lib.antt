@@ -1,4 +1,5 @@
 pub mod Covers
+pub mod CoversCases
 pub mod Group
 pub mod GroupLaws
 pub mod Seen

@@ -1,7 +1,7 @@
 -- Two bridges that agree in the words that are public or the group's meet the premises of demand 3, and a run of each answers the group alike and leaves it the same.
 --     viewed              with exact marks, `SeenAlike` gives `View`: what demand 3 asks of two bridges
---     isolated-run        THE STATEMENT: what `closed`, `Exact` and `seen` tell, and own requests that are equal, give equal answers and leave the
---                         group's stop bits, error records and interrupt records equal
+--     isolated-run        THE STATEMENT: where the group is `closed`, the marks are `Exact`, every `seen` word is equal in both and so are the own
+--                         requests, the answers are equal and the group's stop bits, error records and interrupt records are left equal
 -- Assumes nothing.
 use mathlib.Core.Path.{_≡_, refl, sym, ap, _∙_}
 use mathlib.Core.Bool.{true}
@@ -105,7 +105,7 @@ module _ (g t : List ℕ) (a b : Bridge) (s : SeenAlike g t a b) where
   }
 
 pub isolated-run : (g t : List ℕ) (a b : Bridge)
-    -- what `celltimber_closed`, `celltimber_covers` and `celltimber_seen` tell
+    -- what 1 from `celltimber_closed`, `celltimber_covers` and `celltimber_seen` means
     → closed (a .tables .sizes .pes) g (a .tables .peers) ≡ true → Exact g (a .tables .sizes .pes) (a .tables .entries) (a .memory) t → SeenAlike g t a b
     -- request words w on the first bridge and v on the second, with answer words l and k
     → (w v l k : List ℕ) → ownRequests (group g) a w (served w l) ≡ ownRequests (group g) b v (served v k)

@@ -35,7 +35,7 @@ fn unless_stopped(address: ByteAddress, pe: PeNumber, stop: u64, stopped: Answer
 }
 
 // A load or store of a PE; `stopped` is its answer where the PE is MMIO stopped.
-pub fn access(hit: Hit, pe: PeNumber, stop: u64, stopped: Answer) -> Answer
+pub(crate) fn access(hit: Hit, pe: PeNumber, stop: u64, stopped: Answer) -> Answer
     ensures { λ r. ⌜ r ≡ accessed hit pe stop stopped ⌝ }
 {
     match hit {

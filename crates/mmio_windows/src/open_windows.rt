@@ -42,7 +42,7 @@ fn is_multiple(value: u64, size: u64) -> bool
 }
 
 // M32: the size, the base, and the PCI base, which ends at or below 2^32.
-pub fn m32_open(base: u64, size: u64, pci: u64) -> bool
+pub(crate) fn m32_open(base: u64, size: u64, pci: u64) -> bool
     ensures { λ r. ⌜ r ≡ m32Open base size pci ⌝ }
 {
     if is_power(M32_LEAST, M32_MOST, size) {
@@ -58,7 +58,7 @@ pub fn m32_open(base: u64, size: u64, pci: u64) -> bool
 }
 
 // An M64 window: the size, the base and the mode.
-pub fn m64_open(window: Window) -> bool
+pub(crate) fn m64_open(window: Window) -> bool
     ensures { λ r. ⌜ r ≡ m64Open window ⌝ }
 {
     let mode = window.mode;

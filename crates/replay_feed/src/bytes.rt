@@ -1,8 +1,8 @@
 // The reader: the bytes of a line of an input, and the line that they end.
 use crate::Kept;
+use crate::LINE_KEPT;
 use crate::Moved;
 use replay_session::Ended;
-use replay_session::LINE_KEPT;
 use replay_session::Progress;
 use replay_session::end_line;
 use replay_text::LINE_FEED;

@@ -4,12 +4,17 @@ mod bytes;
 use bytes::take_line;
 use kinds::record::Sizes;
 use replay_session::Progress;
-use replay_session::fit;
 use replay_tables::Extent;
 ghost use mathlib.Core.Path.{_≡_};
+ghost use mathlib.Core.Bool.{_&&_};
+ghost use lib.Dec.{eqb, leb};
+ghost use Rattle.replay_text.specs.Stream.{lineKept};
 ghost use Rattle.replay_session.specs.Standing.{buffers, standing};
 ghost use Rattle.replay_feed.specs.Feed.{endBytes, endOf};
 ghost use Rattle.replay_feed.specs.Promise.{FedAs, Started};
+
+// The bytes of a line that are kept: a longer line is bad, and so are its first bytes.
+pub(crate) const LINE_KEPT: usize = 128;
 
 // What became of a piece: so many bytes of it were taken, and the output ends at `at`. Fewer bytes than there are: the next one ends a line, and the
 // output, the count of output lines or the tables have no room for it. Unfit: no buffer of 128 bytes for the line, or more pending than it holds; nothing
@@ -54,6 +59,16 @@ pub fn start() -> Progress
         pending: 0,
         count: 0,
     }
+}
+
+// Whether the line's buffer has 128 bytes, and no more are pending.
+fn fit(length: usize, pending: usize) -> bool
+    ensures { λ r. ⌜ r ≡ (eqb length lineKept && leb pending lineKept) ⌝ }
+{
+    if length != LINE_KEPT {
+        return false;
+    }
+    pending <= LINE_KEPT
 }
 
 // A piece of the input: its bytes, up to the first line that cannot end.

@@ -3,7 +3,6 @@
 --     wrote-to, wrote-none                an output line, where there is room
 --     closed-silent, closed-says, closed-none     what a reply writes
 --     close-ended, close-stays            the end of a line that ran
---     fit-not, fit-pending                whether the line's buffer fits, test by test
 --     bytes-all, bytes-part               the pending bytes of the line's buffer
 -- Assumes nothing.
 use mathlib.Core.Path.{_≡_, refl, sym, ap, _∙_}
@@ -112,10 +111,3 @@ module _ (b : List ℕ) (n : ℕ) where
 
   pub bytes-part : n ≤ length b → n ≡ length (take n b)
   bytes-part h = sym (length-take-le n b h)
-
-module _ (l p : ℕ) where
-  pub fit-not : (l ≡ lineKept → ⊥) → false ≡ (eqb l lineKept && leb p lineKept)
-  fit-not h = rw (ne-eqb l lineKept h)
-
-  pub fit-pending : l ≡ lineKept → leb p lineKept ≡ (eqb l lineKept && leb p lineKept)
-  fit-pending h = rw (eq-eqb l lineKept h)

@@ -11,17 +11,13 @@ use text_report::Written;
 ghost use mathlib.Core.Path.{_≡_};
 ghost use mathlib.Core.Bool.{_&&_};
 ghost use Prim.Native.Nat.{_+_, _≤_, _<_};
-ghost use lib.Dec.{eqb, ltb, leb};
+ghost use lib.Dec.{ltb, leb};
 ghost use lib.ListN.{length, take};
 ghost use lib.Seq.{sets};
 ghost use Rattle.replay_text.specs.Text.{answerLine, lineMost};
 ghost use Rattle.replay_text.specs.Replay.{textOf};
-ghost use Rattle.replay_text.specs.Stream.{lineKept};
 ghost use Rattle.replay_session.specs.EndPromise.{EndedTo, RanTo, closedBy, ranBy};
 ghost use Rattle.replay_session.specs.Standing.{lastCount, buffers, standing};
-
-// The bytes of a line that are kept: a longer line is bad, and so are its first bytes.
-pub const LINE_KEPT: usize = 128;
 
 // Where a replay stands between two pieces: the extent of the tables, the bytes kept of the line that has not ended, and the count of output lines.
 pub struct Progress {
@@ -59,16 +55,6 @@ fn has_room(count: u64, length: usize, at: usize) -> bool
         return false;
     }
     at <= length - text_report::LINE_MOST
-}
-
-// Whether the line's buffer has 128 bytes, and no more are pending.
-pub fn fit(length: usize, pending: usize) -> bool
-    ensures { λ r. ⌜ r ≡ (eqb length lineKept && leb pending lineKept) ⌝ }
-{
-    if length != LINE_KEPT {
-        return false;
-    }
-    pending <= LINE_KEPT
 }
 
 // Output line `count` + 1; the place after it.

@@ -1,4 +1,3 @@
 pub mod SetLaws
 pub mod SizeLaws
 pub mod TableLaws
-pub mod UsedLaws

@@ -16,7 +16,7 @@
 use mathlib.Core.Bool.{Bool, true, cond, _&&_}
 use mathlib.Core.List.{List, [], _∷_, _++_}
 use Prim.Native.Nat.{ℕ, _*_}
-use lib.Dec.{eqb, leb}
+use lib.Dec.{leb}
 use lib.ListN.{length, take, drop, set, replicate}
 use Rattle.kinds.specs.Tests.{all}
 use Rattle.kinds.specs.declared.record.Lengths.{Lengths}
@@ -27,7 +27,7 @@ use Rattle.replay_text.specs.declared.Table.{Table}
 use Rattle.replay_text.specs.declared.Table.the-variants.{Requesters, Entries, Memory, Peers, Interrupts, Windows, Segments, State}
 use Rattle.profile.specs.Step.{after}
 use Rattle.profile.specs.Tables.{Live, entryWords, peerWords, interruptWords, windowWords, segmentCount, stateWords}
-use Rattle.tables.specs.Tables.{lengthsOf}
+use Rattle.tables.specs.Tables.{lengthsOf, once}
 use Rattle.replay_text.specs.SessionTables.{Session, session, sizesOf, settable}
 use Rattle.replay_tables.specs.declared.Extent.{Extent}
 
@@ -57,10 +57,6 @@ lent x q e m p n w g t = record {
 
 abbrev pub extentOf : (n m r w : ℕ) → Extent
 extentOf n m r w = record { sizes = sizesOf n m r; memory = w }
-
--- windows and segments are there as soon as there are PEs
-abbrev pub once : ℕ → ℕ
-once n = cond (eqb n 0) 0 1
 
 abbrev pub usedBy : Extent → Table → ℕ
 usedBy x Requesters = x .sizes .requesters

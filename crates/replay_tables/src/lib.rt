@@ -2,7 +2,6 @@
 mod size;
 mod table;
 
-use kinds::answer::Numbers;
 use kinds::record::Sizes;
 use profile::limits::ENTRY_WORDS;
 use profile::limits::INTERRUPT_WORDS;
@@ -16,15 +15,10 @@ use size::clear_all;
 use size::room_for;
 use table::set_short;
 use table::set_word;
+use tables::lists::once;
 use tables::sizes;
-ghost use mathlib.Core.Path.{_≡_};
-ghost use Prim.Native.Nat.{_*_, min};
-ghost use Rattle.replay_text.specs.Text.{badNumbers};
-ghost use Rattle.replay_tables.specs.Lent.{once, lent};
+ghost use Rattle.replay_tables.specs.Lent.{lent};
 ghost use Rattle.replay_tables.specs.Promise.{DidSet, SizedTo};
-
-// The number of the name `bad`.
-const BAD: u64 = 7;
 
 // What the last good size line asked for; zeros before the first one.
 pub struct Extent {
@@ -36,44 +30,6 @@ pub struct Extent {
 pub struct Replied {
     pub extent: Extent,
     pub reply: Reply,
-}
-
-// 1 where there are PEs, and with them windows and segments; else 0.
-pub fn once(pes: u64) -> u64
-    ensures { λ r. ⌜ r ≡ once pes ⌝ }
-{
-    if pes == 0 {
-        return 0;
-    }
-    1
-}
-
-// How many words of a list are in use: `count` times `each`, or all where it has no more.
-pub fn used(count: u64, each: u64, length: usize) -> usize
-    ensures { λ r. ⌜ r ≡ min (count * each) length ⌝ }
-{
-    if each == 0 {
-        return 0;
-    }
-    if (length as u64) / each < count {
-        return length;
-    }
-    (count * each) as usize
-}
-
-// What a bad line answers.
-pub fn bad() -> Numbers
-    ensures { λ r. ⌜ r ≡ badNumbers ⌝ }
-{
-    Numbers {
-        name: BAD,
-        reason: 0,
-        value: 0,
-        words: 0,
-        pe: 0,
-        server: 0,
-        priority: 0,
-    }
 }
 
 // A set line: a word of a table set where it is in use, or the answer to a bad line.

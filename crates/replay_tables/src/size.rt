@@ -1,6 +1,4 @@
 // A size line: whether the lent tables have room for what it asks, and all of them cleared.
-use crate::table::clear;
-use crate::table::clear_short;
 use kinds::record::Lengths;
 use profile::limits::ENTRY_WORDS;
 use profile::limits::INTERRUPT_WORDS;
@@ -8,6 +6,8 @@ use profile::limits::PEER_WORDS;
 use profile::limits::SEGMENT_COUNT;
 use profile::limits::STATE_WORDS;
 use profile::limits::WINDOW_WORDS;
+use tables::lists::clear;
+use tables::lists::clear_short;
 ghost use mathlib.Core.Path.{_≡_};
 ghost use lib.ListN.{length};
 ghost use Rattle.replay_text.specs.declared.Line.the-variants.{Size};

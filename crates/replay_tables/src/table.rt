@@ -1,12 +1,11 @@
-// One lent table: a word of the part in use set, all of it cleared.
-use crate::bad;
-use crate::used;
+// One lent table: a word of the part in use set.
 use replay_text::Reply;
+use replay_text::bad;
+use tables::lists::used;
 ghost use mathlib.Core.Path.{_≡_};
 ghost use mathlib.Core.Bool.{true};
 ghost use Prim.Native.Nat.{_*_, _^_};
 ghost use lib.Dec.{ltb};
-ghost use lib.ListN.{length, replicate};
 ghost use Rattle.replay_tables.specs.Promise.{SetPart};
 
 // A word of 16 bits is below it.
@@ -37,24 +36,4 @@ pub(crate) fn set_short(table: &mut [u16], count: u64, each: u64, index: u64, va
         return Reply::Says(bad());
     }
     Reply::Says(bad())
-}
-
-pub(crate) fn clear(table: &mut [u64])
-    ensures { λ _. ⌜ now (table .exit) ≡ replicate (length (now (table .entry))) 0 ⌝ }
-{
-    let mut i = 0;
-    while i < table.len() {
-        table[i] = 0;
-        i += 1;
-    }
-}
-
-pub(crate) fn clear_short(table: &mut [u16])
-    ensures { λ _. ⌜ now (table .exit) ≡ replicate (length (now (table .entry))) 0 ⌝ }
-{
-    let mut i = 0;
-    while i < table.len() {
-        table[i] = 0;
-        i += 1;
-    }
 }

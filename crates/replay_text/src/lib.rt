@@ -1,11 +1,16 @@
-// The replay text: its definition, in specs/ from Replay.antt down, and the types that it shares with the code.
+// The replay text: its definition, in specs/ from Replay.antt down, the types that it shares with the code, and what a bad line answers.
 use kinds::answer::Numbers;
 use kinds::request::Request;
+ghost use mathlib.Core.Path.{_≡_};
+ghost use Rattle.replay_text.specs.Text.{badNumbers};
 
 // The byte that parts fields, and the byte that ends a line.
 pub const TAB: u8 = 9;
 
 pub const LINE_FEED: u8 = 10;
+
+// The number of the name `bad`.
+const BAD: u64 = 7;
 
 // The tables, as a set line names them.
 pub enum Table {
@@ -40,4 +45,19 @@ pub enum Reply {
     Silent,
     Says(Numbers),
     NoRoom,
+}
+
+// What a bad line answers.
+pub fn bad() -> Numbers
+    ensures { λ r. ⌜ r ≡ badNumbers ⌝ }
+{
+    Numbers {
+        name: BAD,
+        reason: 0,
+        value: 0,
+        words: 0,
+        pe: 0,
+        server: 0,
+        priority: 0,
+    }
 }

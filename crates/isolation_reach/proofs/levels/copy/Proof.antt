@@ -1,0 +1,61 @@
+-- `isolation_reach::levels::copy` meets its contract. The invariant: the first i words are those of the other list. Assumes nothing.
+use Rattle.isolation_reach.proofs.MarkingLaws as laws
+use borrow.Author.Needs.{needs}
+use mathlib.Core.Path.{_≡_, refl}
+use Prim.Native.Nat.{_-_, _≤_}
+use lib.ListN.{length, take}
+use Rattle.isolation_reach.proofs.levels.copy.Statement.{statement}
+use Rattle.isolation_reach.proofs.levels.copy.Tie as tie
+
+abbrev Inv-loop : tie.InvT-loop
+Inv-loop to₀ from i₀ to i = (i ≤ length to₀) × (length to ≡ length to₀) × (length to ≡ length from) × (take i to ≡ take i from)
+
+abbrev μ-loop : tie.MeasureT-loop
+μ-loop to₀ from i₀ to i = length to₀ - i
+
+loop-holds : tie.Need-loop-holds Inv-loop μ-loop
+loop-holds c = (search needs, search needs, search needs, refl)
+
+mul-to : tie.Need-mul-to Inv-loop μ-loop
+mul-to c = search needs
+
+shared-slice-read-to : tie.Need-shared-slice-read-to Inv-loop μ-loop
+shared-slice-read-to c = search needs
+
+mul-to-2 : tie.Need-mul-to-2 Inv-loop μ-loop
+mul-to-2 c = search needs
+
+slice-write-to : tie.Need-slice-write-to Inv-loop μ-loop
+slice-write-to c = search needs
+
+add-i : tie.Need-add-i Inv-loop μ-loop
+add-i c = search needs
+
+loop-less : tie.Need-loop-less Inv-loop μ-loop
+loop-less c = search needs
+
+loop-again : tie.Need-loop-again Inv-loop μ-loop
+loop-again c = (search needs, search needs, search needs, search laws.copied-more)
+
+same-length : tie.Need-same-length Inv-loop μ-loop
+same-length c = search needs
+
+returns : tie.Need-returns Inv-loop μ-loop
+returns c = search laws.copied-all
+
+pub copy-spec : {M : Type 1} → statement M
+copy-spec =
+    tie.close
+    (tie.spec
+    Inv-loop
+    μ-loop
+    loop-holds
+    mul-to
+    shared-slice-read-to
+    mul-to-2
+    slice-write-to
+    add-i
+    loop-less
+    loop-again
+    same-length
+    returns)
