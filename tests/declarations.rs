@@ -234,7 +234,7 @@ fn defined(run: &Function) -> Numbers {
             all.remove(&format!("TABLE_{name}"));
         }
     }
-    let layout = constants(&read("crates/request_words/src/layout.rt"));
+    let layout = constants(&read("crates/request_lists/src/layout.rt"));
     let interrupts = constants(&read("crates/msi/src/interrupts.rt"));
     all.extend(layout);
     all.extend(interrupts.into_iter().filter(|(name, _)| ["P", "Q"].contains(&name.as_str())));

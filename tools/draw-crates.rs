@@ -18,11 +18,11 @@ use std::process::exit;
 /// The families, from left to right in the figure: the crates of each, a * for the rest of a name.
 /// A name in full goes before one with a *.
 const FAMILIES: [(&str, &str); 10] = [
-    ("values and definition", "kinds profile isolation"),
-    ("tables", "tables"),
+    ("values and definition", "kinds outcomes profile isolation"),
+    ("tables", "table*"),
     ("DMA", "dma*"),
     ("MSI and firmware", "msi* firmware*"),
-    ("requests and answers", "owners decide handle request_words bridge"),
+    ("requests and answers", "owners decide handle request_* bridge"),
     ("loads and stores", "mmio*"),
     ("endpoints and freeze", "endpoints freeze"),
     ("premises of isolation", "isolation_*"),

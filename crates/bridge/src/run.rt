@@ -1,8 +1,8 @@
 // A list of requests as words, and their answers as words. Each request gets the tables as the last one left them.
 use handle;
 use kinds::record::Sizes;
-use request_words::layout;
-use request_words::word_lists;
+use request_lists::layout;
+use request_lists::word_lists;
 ghost use mathlib.Core.Path.{_≡_};
 ghost use Prim.Native.Nat.{_+_, _*_, _/_, _≤_, min};
 ghost use lib.ListN.{length};

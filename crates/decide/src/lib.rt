@@ -7,7 +7,6 @@ use kinds::answer::Answer;
 use kinds::answer::Reason;
 use kinds::lookup::Owner;
 use kinds::number::PeNumber;
-use kinds::outcome;
 use kinds::outcome::Check;
 use kinds::outcome::Effect;
 use kinds::outcome::ErrorRecord;
@@ -18,6 +17,7 @@ use kinds::request::DmaRequest;
 use kinds::request::Request;
 use mmio;
 use mmio_windows;
+use outcomes;
 use owners;
 use tables::sizes;
 ghost use mathlib.Core.Path.{_≡_};
@@ -49,7 +49,7 @@ fn by_requester(
             return dma::check_dma(interrupt, entries, interrupts, state, pe, dma);
         }
         Owner::Nobody(reason) => {
-            return outcome::refuse(reason);
+            return outcomes::refuse(reason);
         }
     }
 }
@@ -62,8 +62,8 @@ fn message(pe: PeNumber, requester: u64) -> Check
         reason: Reason::ErrorMessage,
         value: requester,
     };
-    let outcome = outcome::done(Effect::Freeze { error, peers: true });
-    outcome::ready(pe, outcome)
+    let outcome = outcomes::done(Effect::Freeze { error, peers: true });
+    outcomes::ready(pe, outcome)
 }
 
 // A request that is well formed. `pes` is N.
@@ -106,7 +106,7 @@ fn ask(
         Request::Error { requester } => {
             match owners::of_requester(pes, sizes.requesters, requesters, requester) {
                 Owner::Nobody(reason) => {
-                    return outcome::refuse(reason);
+                    return outcomes::refuse(reason);
                 }
                 Owner::Of(pe) => {
                     return message(pe, requester);
@@ -126,7 +126,7 @@ fn ask(
             return firmware::prioritize(pes, sizes.interrupts, interrupts, interrupt, priority);
         }
         Request::Unnamed => {
-            return outcome::refuse(Reason::BadRequest);
+            return outcomes::refuse(Reason::BadRequest);
         }
     }
 }
@@ -159,9 +159,9 @@ pub fn check(
                 request,
             );
         }
-        return outcome::refuse(Reason::BadRequest);
+        return outcomes::refuse(Reason::BadRequest);
     }
-    outcome::refuse(Reason::TableLength)
+    outcomes::refuse(Reason::TableLength)
 }
 
 // What is left after the checks: the walk, the only reader of memory.

@@ -8,7 +8,6 @@ use kinds::answer::Reason;
 use kinds::lookup::Translated;
 use kinds::number::ByteAddress;
 use kinds::number::PeNumber;
-use kinds::outcome;
 use kinds::outcome::Check;
 use kinds::outcome::Outcome;
 use kinds::record::TranslationEntry;
@@ -16,6 +15,7 @@ use kinds::request::AddressClass;
 use kinds::request::DmaRequest;
 use msi;
 use msi::interrupts;
+use outcomes;
 ghost use mathlib.Core.Path.{_≡_};
 ghost use Rattle.kinds.specs.Checked.{shown, Walk};
 ghost use Rattle.kinds.specs.Words.{at};
@@ -29,8 +29,8 @@ fn outcome_of(pe: PeNumber, address: ByteAddress, result: Translated, words: u64
     ensures { λ r. ⌜ r ≡ outcomeOf pe address result words ⌝ }
 {
     match result {
-        Translated::To(to) => outcome::passed(pe, to, words),
-        Translated::Fault { reason, place: _ } => outcome::failed(reason, address, words),
+        Translated::To(to) => outcomes::passed(pe, to, words),
+        Translated::Fault { reason, place: _ } => outcomes::failed(reason, address, words),
     }
 }
 
@@ -42,19 +42,19 @@ fn by_entry(entry: TranslationEntry, pe: PeNumber, dma: DmaRequest) -> Check
     let offset = addresses::offset_of(address);
     match ask::ask(entry, offset) {
         Way::Walk(_) => {
-            return outcome::walk(pe, entry, dma);
+            return outcomes::walk(pe, entry, dma);
         }
         Way::Bypass => {
-            let outcome = outcome::passed(pe, offset, 0);
-            return outcome::ready(pe, outcome);
+            let outcome = outcomes::passed(pe, offset, 0);
+            return outcomes::ready(pe, outcome);
         }
         Way::BadEntry => {
-            let outcome = outcome::failed(Reason::BadEntry, address, 0);
-            return outcome::ready(pe, outcome);
+            let outcome = outcomes::failed(Reason::BadEntry, address, 0);
+            return outcomes::ready(pe, outcome);
         }
         Way::OutsideWindow => {
-            let outcome = outcome::failed(Reason::OutsideWindow, address, 0);
-            return outcome::ready(pe, outcome);
+            let outcome = outcomes::failed(Reason::OutsideWindow, address, 0);
+            return outcomes::ready(pe, outcome);
         }
     }
 }
@@ -70,9 +70,9 @@ fn deliver(count: u64, interrupts: &[u64], pe: PeNumber, dma: DmaRequest, number
             let record = interrupts::interrupt_at(interrupts, number);
             return msi::deliver(pe, address, number, record);
         }
-        return outcome::failed(Reason::MsiRefused, address, 0);
+        return outcomes::failed(Reason::MsiRefused, address, 0);
     }
-    outcome::failed(Reason::MsiRefused, address, 0)
+    outcomes::failed(Reason::MsiRefused, address, 0)
 }
 
 // A DMA of a PE that is not stopped, by the class of its address.
@@ -87,16 +87,16 @@ fn by_class(count: u64, entries: &[u64], interrupts: &[u64], pe: PeNumber, dma: 
         AddressClass::Msi32 => {
             let number = msi::msi_number32(address, dma.data);
             let outcome = deliver(count, interrupts, pe, dma, number);
-            return outcome::ready(pe, outcome);
+            return outcomes::ready(pe, outcome);
         }
         AddressClass::Msi64 => {
             let number = msi::msi_number64(address, dma.data);
             let outcome = deliver(count, interrupts, pe, dma, number);
-            return outcome::ready(pe, outcome);
+            return outcomes::ready(pe, outcome);
         }
         AddressClass::Unserved => {
-            let outcome = outcome::failed(Reason::AddressClass, address, 0);
-            return outcome::ready(pe, outcome);
+            let outcome = outcomes::failed(Reason::AddressClass, address, 0);
+            return outcomes::ready(pe, outcome);
         }
     }
 }
@@ -114,7 +114,7 @@ pub fn check_dma(
 {
     let stop = endpoints::stop_word(state, pe);
     if endpoints::dma_stopped(stop) {
-        return outcome::refuse(Reason::DmaStopped);
+        return outcomes::refuse(Reason::DmaStopped);
     }
     by_class(count, entries, interrupts, pe, dma)
 }

@@ -1,7 +1,6 @@
 // What firmware asks of an interrupt: its end, and a new priority.
 use kinds::answer::Answer;
 use kinds::answer::Reason;
-use kinds::outcome;
 use kinds::outcome::Effect;
 use kinds::outcome::Outcome;
 use kinds::record::Interrupt;
@@ -9,6 +8,7 @@ use msi::arrive;
 use msi::interrupts::P;
 use msi::interrupts::Q;
 use msi::interrupts::in_range;
+use outcomes;
 use profile::limits::HOLDING;
 ghost use mathlib.Core.Path.{_≡_};
 ghost use Rattle.kinds.specs.declared.answer.Reason.the-variants.{BadFirmware};
@@ -19,14 +19,14 @@ ghost use Rattle.profile.specs.Firmware.{onGood, ends, prioritized};
 fn firmware_refused() -> Outcome
     ensures { λ r. ⌜ r ≡ refused BadFirmware ⌝ }
 {
-    outcome::refused(Reason::BadFirmware)
+    outcomes::refused(Reason::BadFirmware)
 }
 
 // Firmware wrote priority and state, and nothing is presented.
 fn written(number: u64, priority: u64, bits: u64) -> Outcome
     ensures { λ r. ⌜ r ≡ done (effect.Interrupt number priority bits) ⌝ }
 {
-    outcome::done(Effect::Interrupt {
+    outcomes::done(Effect::Interrupt {
         number,
         priority,
         bits,

@@ -3,11 +3,11 @@ pub mod interrupt;
 
 use kinds::answer::Reason;
 use kinds::lookup::Owner;
-use kinds::outcome;
 use kinds::outcome::Check;
 use kinds::outcome::Effect;
 use kinds::request::Part;
 use msi::interrupts;
+use outcomes;
 use owners;
 ghost use mathlib.Core.Path.{_≡_};
 ghost use Rattle.kinds.specs.Checked.{shown, Ready};
@@ -26,10 +26,10 @@ pub fn clear(pes: u16, pe: u64, part: Part) -> Check
 {
     match owners::named_pe(Reason::BadFirmware, pes, pe) {
         Owner::Of(pe) => {
-            let outcome = outcome::done(Effect::Release { part });
-            outcome::ready(pe, outcome)
+            let outcome = outcomes::done(Effect::Release { part });
+            outcomes::ready(pe, outcome)
         }
-        Owner::Nobody(reason) => outcome::refuse(reason),
+        Owner::Nobody(reason) => outcomes::refuse(reason),
     }
 }
 
@@ -41,9 +41,9 @@ pub fn end(pes: u16, count: u64, interrupts: &[u64], number: u64) -> Check
         Owner::Of(pe) => {
             let record = interrupts::interrupt_at(interrupts, number);
             let outcome = interrupt::end_interrupt(number, record);
-            outcome::ready(pe, outcome)
+            outcomes::ready(pe, outcome)
         }
-        Owner::Nobody(reason) => outcome::refuse(reason),
+        Owner::Nobody(reason) => outcomes::refuse(reason),
     }
 }
 
@@ -55,8 +55,8 @@ pub fn prioritize(pes: u16, count: u64, interrupts: &[u64], number: u64, priorit
         Owner::Of(pe) => {
             let record = interrupts::interrupt_at(interrupts, number);
             let outcome = interrupt::set_priority(number, priority, record);
-            outcome::ready(pe, outcome)
+            outcomes::ready(pe, outcome)
         }
-        Owner::Nobody(reason) => outcome::refuse(reason),
+        Owner::Nobody(reason) => outcomes::refuse(reason),
     }
 }

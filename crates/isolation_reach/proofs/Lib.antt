@@ -1,3 +1,2 @@
 mod MembersLaws
-mod IsMemberLaws
 mod MarkingLaws

@@ -27,16 +27,8 @@ use Rattle.kinds.specs.declared.number.PageSize.{PageSize}
 use Rattle.isolation_reach.specs.MarksLaws.{small-code, small-bits, paged-level, marks-zero, marks-suc}
 use Rattle.profile.specs.Walk.{leads}
 use Rattle.isolation_reach.specs.declared.marks.Gap.{Gap}
-use Rattle.isolation_reach.specs.Marks.{anyMark, indexOf, firstOf, tableOf, leadsTo, within, markTurn, tableTurn, markedIn, tablesOver, tablesUnder, marksFrom, msiPage4k, msiPages4k, msiPage64k, msiPages64k, gapAt, gapOf, marksBy, marksWith}
-
-module _ (t : List ℕ) (i : ℕ) {w : ℕ} (read : w ≡ at t i) where
-  pub mark-none : w ≡ 0 → false ≡ anyMark t i
-  unfolding anyMark
-  mark-none h = rw (← read, h)
-
-  pub mark-some : (w ≡ 0 → ⊥) → true ≡ anyMark t i
-  unfolding anyMark
-  mark-some h = rw (← read, ne-eqb _ 0 h)
+use Rattle.isolation_reach.specs.Marks.{indexOf, firstOf, tableOf, leadsTo, within, markTurn, tableTurn, markedIn, tablesOver, tablesUnder, marksFrom, msiPage4k, msiPages4k, msiPage64k, msiPages64k, gapAt, gapOf, marksBy, marksWith}
+use Rattle.isolation_groups.specs.Mark.{anyMark}
 
 -- ---- lists as a whole
 

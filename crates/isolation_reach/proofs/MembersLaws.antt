@@ -9,7 +9,7 @@ use borrow.Author.Tests.{eq-eqb, ne-eqb}
 use Rattle.kinds.specs.Turns.{turns}
 use Rattle.kinds.specs.declared.record.TranslationEntry.{TranslationEntry}
 use Rattle.isolation_reach.specs.Marks.{marksBy, marksWith}
-use Rattle.isolation_reach.specs.Member.{memberOf}
+use Rattle.isolation_groups.specs.Member.{memberOf}
 use Rattle.profile.specs.Entry.{entryIn}
 use Rattle.isolation_reach.specs.Footprint.{peTurn, membersMarks, Emptied, roomAfter, MembersMarked}
 

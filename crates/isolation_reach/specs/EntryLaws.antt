@@ -23,7 +23,8 @@ use Rattle.kinds.specs.declared.record.TranslationEntry.{TranslationEntry}
 use Rattle.kinds.specs.declared.request.AddressClass.the-variants.{Dma}
 use Rattle.profile.specs.Entry.{classOf, half, offset, pageSize, pageOf, indexBits, span, paged, walks}
 use Rattle.profile.specs.Walk.{walkFrom, walk, readsBy}
-use Rattle.isolation_reach.specs.Marks.{anyMark, gapOf, marksBy}
+use Rattle.isolation_reach.specs.Marks.{gapOf, marksBy}
+use Rattle.isolation_groups.specs.Mark.{anyMark}
 use Rattle.isolation_reach.specs.MarksLaws.{paged-code, paged-level, paged-aligned, paged-span}
 use Rattle.isolation_reach.specs.PutLaws.{none-marked}
 use Rattle.isolation_reach.specs.TableLaws.{eighth, eighth-back}

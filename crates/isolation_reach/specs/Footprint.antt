@@ -15,8 +15,9 @@ use Prim.Native.Nat.{ℕ}
 use lib.Dec.{eqb}
 use lib.ListN.{length, replicate}
 use Rattle.kinds.specs.Turns.{turns}
-use Rattle.isolation_reach.specs.Marks.{anyMark, marksBy}
-use Rattle.isolation_reach.specs.Member.{memberOf, group}
+use Rattle.isolation_reach.specs.Marks.{marksBy}
+use Rattle.isolation_groups.specs.Mark.{anyMark}
+use Rattle.isolation_groups.specs.Member.{memberOf, group}
 use Rattle.profile.specs.Agree.{Reads}
 use Rattle.profile.specs.Entry.{entryIn}
 use Rattle.profile.specs.Tables.{Tables}

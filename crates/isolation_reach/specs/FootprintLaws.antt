@@ -15,10 +15,11 @@ use Rattle.kinds.specs.Tests.{by-cases}
 use Rattle.kinds.specs.Turns.{turns}
 use Rattle.kinds.specs.declared.number.ByteAddress.{ByteAddress}
 use Rattle.kinds.specs.declared.request.AddressClass.the-variants.{Dma}
-use Rattle.isolation_reach.specs.Marks.{anyMark, marksBy}
+use Rattle.isolation_reach.specs.Marks.{marksBy}
+use Rattle.isolation_groups.specs.Mark.{anyMark}
 use Rattle.isolation_reach.specs.EntryLaws.{by-length, by-kept, entry-read, entry-marked}
 use Rattle.isolation_reach.specs.PutLaws.{none-marked}
-use Rattle.isolation_reach.specs.Member.{memberOf}
+use Rattle.isolation_groups.specs.Member.{memberOf}
 use Rattle.profile.specs.Entry.{classOf, half, offset, entryIn}
 use Rattle.profile.specs.Walk.{readsBy}
 use Rattle.isolation_reach.specs.Footprint.{peTurn, membersMarks, Exact}

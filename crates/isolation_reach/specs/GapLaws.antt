@@ -3,7 +3,6 @@
 --     page-dma            the first address of a page that is not among them is of the DMA class; dma-page: an address of the DMA class is in no such page
 -- Assumes nothing.
 use mathlib.Core.Path.{_≡_, sym, _∙_}
-use mathlib.Core.Bool.{not}
 use Prim.Native.Nat.{ℕ, _+_, _-_, _*_, _/_, _^_, _<_, _≤_}
 use native.Mathlib.Nat.{zero-div, div-eq-of-lt, lt-of-le-of-lt}
 use native.Mathlib.Omega.{arith}

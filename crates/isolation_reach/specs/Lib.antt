@@ -1,13 +1,9 @@
-pub mod Any
-pub mod AnyLaws
 pub mod EntryLaws
 pub mod Footprint
 pub mod FootprintLaws
 pub mod GapLaws
 pub mod Marks
 pub mod MarksLaws
-pub mod Member
-pub mod MemberLaws
 pub mod PutLaws
 pub mod ReachLaws
 pub mod TableLaws

@@ -1,6 +1,5 @@
 -- The memory words that walks by an entry read for an address of the DMA class, found level by level and marked. A walk of page q reads one word of a table,
 -- at the index that q has for its level. So a page that is not walked is left out of one table of the last level only: the one that it leads to.
---     anyMark t j         word j of t is not 0: it has a mark
 --     indexOf n k q       the index of page q in a table of 2 ^ n words with k levels below it
 --     firstOf n j         the first word of the table of 2 ^ n words that memory word j is in
 --     tableOf n w z       the first word of the table that an upper word w leads to, or z where it leads to none
@@ -19,7 +18,7 @@
 --     marksBy m e h r     r with the words that walks by entry e, which is record h of its PE, read for an address of the DMA class; marksWith: with the
 --                         lists that are lent for it
 -- Assumes nothing.
-use mathlib.Core.Bool.{Bool, true, false, cond, not}
+use mathlib.Core.Bool.{Bool, true, false, cond}
 use mathlib.Core.List.{List}
 use Prim.Native.Nat.{ℕ, zero, suc, _+_, _-_, _*_, _/_, _%_, _^_}
 use lib.Dec.{leb, ltb, eqb}
@@ -30,9 +29,7 @@ use Rattle.kinds.specs.declared.record.TranslationEntry.{TranslationEntry}
 use Rattle.profile.specs.Entry.{indexBits, paged}
 use Rattle.profile.specs.Walk.{nextBase, leads}
 use Rattle.isolation_reach.specs.declared.marks.Gap.{Gap}
-
-unfoldable pub anyMark : List ℕ → ℕ → Bool
-anyMark t j = not (eqb (at t j) 0)
+use Rattle.isolation_groups.specs.Mark.{anyMark}
 
 abbrev pub indexOf : (bits below page : ℕ) → ℕ
 indexOf n k q = q / 2 ^ (n * k) % 2 ^ n

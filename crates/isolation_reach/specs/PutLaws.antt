@@ -16,7 +16,8 @@ use borrow.Author.Tests.{ltb-true, eqb-true, eqb-false}
 use Rattle.kinds.specs.Tests.{by-cases, clash}
 use Rattle.kinds.specs.Turns.{turns}
 use Rattle.kinds.specs.WordsLaws.{at-out, at-set}
-use Rattle.isolation_reach.specs.Marks.{anyMark, putTurn}
+use Rattle.isolation_reach.specs.Marks.{putTurn}
+use Rattle.isolation_groups.specs.Mark.{anyMark}
 
 pub marked-below : (l : List ℕ) (i : ℕ) → anyMark l i ≡ true → i < length l
 unfolding anyMark

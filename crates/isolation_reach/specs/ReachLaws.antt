@@ -22,7 +22,8 @@ use Rattle.kinds.specs.declared.number.ByteAddress.{ByteAddress}
 use Rattle.kinds.specs.declared.number.PageNumber.{PageNumber}
 use Rattle.profile.specs.Walk.{place, nextBase, leads, walkFrom}
 use Rattle.profile.specs.WalkLaws.{walk-suc, walk-cases, first-read, later-read}
-use Rattle.isolation_reach.specs.Marks.{anyMark, indexOf, firstOf, leadsTo, within, markedIn, tablesOver, tablesUnder, marksFrom}
+use Rattle.isolation_reach.specs.Marks.{indexOf, firstOf, leadsTo, within, markedIn, tablesOver, tablesUnder, marksFrom}
+use Rattle.isolation_groups.specs.Mark.{anyMark}
 use Rattle.isolation_reach.specs.PutLaws.{marked-below, none-marked, length-puts, puts-kept, puts-put, puts-cases}
 use Rattle.isolation_reach.specs.TableLaws.{index-place, first-place, whole-place, lead-aligned, lead-is, lead-cases, within-table, within-here, within-cases, up, part, page-zero}
 

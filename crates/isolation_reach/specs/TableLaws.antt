@@ -19,7 +19,8 @@ use Rattle.kinds.specs.Tests.{by-cases, clash, and-right}
 use Rattle.kinds.specs.Words.{at}
 use Rattle.profile.specs.Entry.{aligned}
 use Rattle.profile.specs.Walk.{nextBase, leads}
-use Rattle.isolation_reach.specs.Marks.{anyMark, indexOf, firstOf, tableOf, leadsTo, within}
+use Rattle.isolation_reach.specs.Marks.{indexOf, firstOf, tableOf, leadsTo, within}
+use Rattle.isolation_groups.specs.Mark.{anyMark}
 
 module _ (n f d : ℕ) (whole : f % 2 ^ n ≡ 0) (h : d < 2 ^ n) where
   pub index-place : (f + d) % 2 ^ n ≡ d

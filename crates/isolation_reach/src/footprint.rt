@@ -1,10 +1,10 @@
 // Marks on the memory words that the walks of a group's members read for an address of the DMA class.
 use crate::marks;
-use crate::members;
 use dma_entry::addresses;
+use isolation_groups;
 use kinds::number::ByteAddress;
 use kinds::number::PeNumber;
-use tables::lists;
+use table_lists;
 ghost use mathlib.Core.Path.{_≡_};
 ghost use lib.ListN.{length};
 ghost use Rattle.kinds.specs.Turns.{turns};
@@ -46,7 +46,7 @@ fn mark_pe(
     requires { ⌜ (length (now tables) ≡ length (now memory)) × (length (now under) ≡ length (now memory)) ⌝ }
     ensures { λ _. ⌜ now (marks .exit) ≡ peTurn (now (group .entry)) (now (entries .entry)) (now (memory .entry)) (now (marks .entry)) pe ⌝ }
 {
-    if members::is_member(group, pe as u64) {
+    if isolation_groups::is_member(group, pe as u64) {
         mark_record(entries, memory, marks, tables, under, pe, ByteAddress(0), 0);
         mark_record(
             entries,
@@ -85,7 +85,7 @@ fn mark_pes(
 fn empty(list: &mut [u64])
     ensures { λ _. ⌜ Emptied (now (list .entry)) (now (list .exit)) ⌝ }
 {
-    lists::clear(list);
+    table_lists::clear(list);
 }
 
 // Marks the words that walks of members read, and no others. `tables` and `under` are room to work in and become 0; nothing is marked where they have not
@@ -101,7 +101,7 @@ pub fn mark_members(
 )
     ensures { λ _. ⌜ MembersMarked pes (now (group .entry)) (now (entries .entry)) (now (memory .entry)) (now (marks .entry)) (now (tables .entry)) (now (under .entry)) (now (marks .exit)) (now (tables .exit)) (now (under .exit)) ⌝ }
 {
-    lists::clear(marks);
+    table_lists::clear(marks);
     if tables.len() == memory.len() {
         if under.len() == memory.len() {
             mark_pes(pes, group, entries, memory, marks, tables, under);

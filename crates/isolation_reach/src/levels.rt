@@ -1,13 +1,13 @@
 // The words of the tables of one level, and the tables that they lead to.
 use crate::marks;
 use dma_pages::page_tables::aligned;
+use isolation_groups;
 use kinds::number::ByteAddress;
-use tables::lists;
+use table_lists;
 use tables::words;
 ghost use mathlib.Core.Path.{_≡_};
-ghost use Prim.Native.Nat.{_+_, _*_, _<_, _≤_};
+ghost use Prim.Native.Nat.{_+_, _*_, _<_};
 ghost use lib.ListN.{length, replicate};
-ghost use Rattle.kinds.specs.Turns.{turns};
 ghost use Rattle.isolation_reach.specs.Marks.{indexOf, firstOf, tableOf, leadsTo, within, markTurn, tableTurn, markedIn, tablesOver, tablesUnder, marksFrom};
 
 // The index of a page in a table of 2^bits words with `below` levels below it.
@@ -63,7 +63,7 @@ fn within(tables: &[u64], bits: u64, table: usize, index: u64, count: u64, j: us
     ensures { λ r. ⌜ r ≡ within (now (tables .entry)) bits table index count j ⌝ }
 {
     let first = first_of(bits, j as u64) as usize;
-    if marks::has_mark(tables, first) {
+    if isolation_groups::has_mark(tables, first) {
         return true;
     }
     if first == table {
@@ -174,7 +174,7 @@ fn mark_upper(
     ensures { λ r. ⌜ (now (marks .exit) ≡ markedIn (length (now (memory .entry))) (now (tables .entry)) bits table index 0 (now (marks .entry))) × (now (tables .exit) ≡ tablesUnder (now (memory .entry)) (now (tables .entry)) bits table index) × (r ≡ leadsTo (now (memory .entry)) bits (table + index)) ⌝ }
 {
     mark_words(tables, marks, memory.len(), bits, table, index, 0);
-    lists::clear(under);
+    table_lists::clear(under);
     mark_tables(memory, tables, under, bits, table, index);
     copy(tables, under);
     leads_to(memory, bits, table, index)
@@ -195,7 +195,7 @@ pub(crate) fn mark_levels(
     requires { ⌜ (bits < 64) × (bits * levels < 64) × (length (now tables) ≡ length (now memory)) × (length (now under) ≡ length (now memory)) ⌝ }
     ensures { λ _. ⌜ now (marks .exit) ≡ marksFrom (now (memory .entry)) bits page count levels (replicate (length (now (memory .entry))) 0) first (now (marks .entry)) ⌝ }
 {
-    lists::clear(tables);
+    table_lists::clear(tables);
     let mut below = levels;
     let mut table = first;
     while 0 < below {

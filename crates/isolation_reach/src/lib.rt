@@ -2,4 +2,3 @@
 pub mod footprint;
 mod levels;
 pub mod marks;
-pub mod members;

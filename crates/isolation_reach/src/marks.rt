@@ -9,7 +9,7 @@ ghost use mathlib.Core.Path.{_≡_};
 ghost use Prim.Native.Nat.{_*_, _<_, _≤_};
 ghost use lib.ListN.{length};
 ghost use Rattle.profile.specs.Entry.{paged, indexBits, mostTableCode, offsetBits};
-ghost use Rattle.isolation_reach.specs.Marks.{anyMark, gapAt, gapOf, marksBy, marksWith};
+ghost use Rattle.isolation_reach.specs.Marks.{gapAt, gapOf, marksBy, marksWith};
 
 // The first page of the 32-bit MSI window where pages have 4 KiB, and the pages that it has.
 const MSI_PAGE_4K: u64 = 0xFFFF0;
@@ -25,17 +25,6 @@ const MSI_PAGES_64K: u64 = 1;
 pub struct Gap {
     pub page: u64,
     pub count: u64,
-}
-
-// Memory word `index` has a mark.
-pub fn has_mark(marks: &[u64], index: usize) -> bool
-    ensures { λ r. ⌜ r ≡ anyMark (now (marks .entry)) index ⌝ }
-{
-    let bits = words::word(marks, index);
-    if bits == 0 {
-        return false;
-    }
-    true
 }
 
 // The entry is good and has pages.

@@ -1,5 +1,5 @@
 -- What the functions of `isolation_tests` are proved from, a law to a `return` or a turn. Assumes nothing.
-use mathlib.Core.Path.{_≡_, refl}
+use mathlib.Core.Path.{_≡_}
 use mathlib.Core.Bool.{Bool, true, false}
 use mathlib.Core.List.{List}
 use Prim.Native.Nat.{ℕ, _-_, _*_, _/_, _%_, _<_, _≤_}
@@ -16,7 +16,7 @@ use Rattle.kinds.specs.declared.request.Request.{Request}
 use Rattle.profile.specs.Freeze.{vectorIn}
 use Rattle.profile.specs.Owner.{ownerIn}
 use Rattle.profile.specs.Tables.{mostPes, interruptWords}
-use Rattle.isolation_reach.specs.Member.{memberOf}
+use Rattle.isolation_groups.specs.Member.{memberOf}
 use Rattle.isolation_tests.specs.Group.{flag, ownerNumber, ownerNumberIn, memberListed, listsMember, outsiderLists, anyOutsiderLists, closed}
 use Rattle.isolation_reach.specs.Footprint.{roomAfter, MembersMarked}
 use Rattle.isolation_reach.specs.FootprintLaws.{marks-exact}

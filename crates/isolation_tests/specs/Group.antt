@@ -19,8 +19,8 @@ use Rattle.kinds.specs.declared.request.Request.{Request}
 use Rattle.profile.specs.Freeze.{vectorIn}
 use Rattle.profile.specs.Owner.{ownerIn}
 use Rattle.profile.specs.Tables.{mostPes}
-use Rattle.isolation_reach.specs.Any.{any}
-use Rattle.isolation_reach.specs.Member.{memberOf}
+use Rattle.isolation_groups.specs.Any.{any}
+use Rattle.isolation_groups.specs.Member.{memberOf}
 
 unfoldable pub flag : Bool → ℕ
 flag true = 1

@@ -21,10 +21,10 @@ use Rattle.profile.specs.Agree.{owned, Closed}
 use Rattle.profile.specs.Freeze.{vectorIn}
 use Rattle.profile.specs.Owner.{owner}
 use Rattle.profile.specs.Tables.{Tables, Live, mostPes}
-use Rattle.isolation_reach.specs.Any.{any}
-use Rattle.isolation_reach.specs.AnyLaws.{any-none, none-any}
-use Rattle.isolation_reach.specs.Member.{memberOf, group}
-use Rattle.isolation_reach.specs.MemberLaws.{not-true}
+use Rattle.isolation_groups.specs.Any.{any}
+use Rattle.isolation_groups.specs.AnyLaws.{any-none, none-any}
+use Rattle.isolation_groups.specs.Member.{memberOf, group}
+use Rattle.isolation_groups.specs.MemberLaws.{not-true}
 use Rattle.isolation_tests.specs.Group.{flag, ownerNumber, ownerNumberIn, memberListed, outsiderLists, closed}
 
 pub flag-one : (b : Bool) → flag b ≡ 1 → b ≡ true

@@ -8,8 +8,8 @@ use Prim.Native.Nat.{ℕ, _*_, _/_, _%_}
 use lib.Dec.{eqb}
 use Rattle.kinds.specs.Words.{peAt}
 use Rattle.profile.specs.Tables.{entryWords, interruptWords, stateWords}
-use Rattle.isolation_reach.specs.Marks.{anyMark}
-use Rattle.isolation_reach.specs.Member.{memberOf}
+use Rattle.isolation_groups.specs.Mark.{anyMark}
+use Rattle.isolation_groups.specs.Member.{memberOf}
 
 unfoldable pub interruptSeen : (g interrupts : List ℕ) → ℕ → Bool
 interruptSeen g l i = cond (eqb (i % interruptWords) 0) true (memberOf g (peAt l (i / interruptWords * interruptWords)))

@@ -25,7 +25,7 @@ use Rattle.profile.specs.Tables.{entryWords, recordWords, interruptWords, state
 use Rattle.isolation.specs.View.{Bridge, bridgeLengths, Public, Written, View}
 use Rattle.request_words.specs.Run.{served, ranTo}
 use Rattle.request_words.specs.RunIsolation.{ownRequests, ownAnswers, run-isolation}
-use Rattle.isolation_reach.specs.Member.{group}
+use Rattle.isolation_groups.specs.Member.{group}
 use Rattle.isolation_tests.specs.Group.{closed}
 use Rattle.isolation_tests.specs.GroupLaws.{closed-is}
 use Rattle.isolation_reach.specs.Footprint.{Exact}

@@ -19,10 +19,9 @@ use Rattle.kinds.specs.declared.record.Lengths.{Lengths}
 use Rattle.kinds.specs.declared.record.TranslationEntry.{TranslationEntry}
 use Rattle.profile.specs.Agree.{seenWord}
 use Rattle.profile.specs.Entry.{entryIn}
-use Rattle.profile.specs.Msi.{interrupt}
 use Rattle.profile.specs.Tables.{entryWords, recordWords, interruptWords, stateWords}
 use Rattle.isolation.specs.View.{Bridge, View}
-use Rattle.isolation_reach.specs.Member.{memberOf, group}
+use Rattle.isolation_groups.specs.Member.{memberOf, group}
 use Rattle.isolation_reach.specs.Footprint.{Exact}
 use Rattle.isolation_tests.specs.Seen.{interruptSeen, seen}
 use Rattle.isolation_tests.specs.SeenAlike.{tableOf, seenOf, SeenAlike}

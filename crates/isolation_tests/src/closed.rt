@@ -1,6 +1,6 @@
 // Whether a PE outside the group lists a member in its peer vector.
 use endpoints;
-use isolation_reach::members;
+use isolation_groups;
 use kinds::number::PeNumber;
 ghost use mathlib.Core.Path.{_≡_};
 ghost use Rattle.isolation_tests.specs.Group.{memberListed, listsMember, outsiderLists, anyOutsiderLists};
@@ -9,7 +9,7 @@ ghost use Rattle.isolation_tests.specs.Group.{memberListed, listsMember,
 fn member_listed(group: &[u64], vector: &[u64], k: u16) -> bool
     ensures { λ r. ⌜ r ≡ memberListed (now (group .entry)) (now (vector .entry)) k ⌝ }
 {
-    if members::is_member(group, k as u64) {
+    if isolation_groups::is_member(group, k as u64) {
         return endpoints::is_listed(vector, k as usize);
     }
     false
@@ -34,7 +34,7 @@ fn lists_member(group: &[u64], vector: &[u64], pes: u16) -> bool
 fn outsider_lists(group: &[u64], peers: &[u64], pes: u16, pe: u16) -> bool
     ensures { λ r. ⌜ r ≡ outsiderLists (now (group .entry)) (now (peers .entry)) pes pe ⌝ }
 {
-    if members::is_member(group, pe as u64) {
+    if isolation_groups::is_member(group, pe as u64) {
         return false;
     }
     let vector = endpoints::peer_vector(peers, PeNumber(pe));

@@ -1,17 +1,17 @@
 // The functions that Rust and C call: numbers and slices only. A slice passes as its first element's address and its length.
 use crate::closed;
 use crate::seen;
+use isolation_groups;
 use isolation_reach::footprint;
-use isolation_reach::members;
 use kinds::lookup::Owner;
 use kinds::number::NO_PE;
 use owners;
 use profile::limits::MOST_PES;
-use request_words::layout;
+use request_lists::layout;
 ghost use mathlib.Core.Path.{_≡_};
 ghost use Rattle.request_words.specs.Layout.{decoded};
 ghost use Rattle.isolation_tests.specs.Group.{flag, ownerNumber, ownerNumberIn, closed};
-ghost use Rattle.isolation_reach.specs.Member.{memberOf};
+ghost use Rattle.isolation_groups.specs.Member.{memberOf};
 ghost use Rattle.isolation_tests.specs.Covers.{Covered};
 ghost use Rattle.isolation_tests.specs.Seen.{seen};
 
@@ -72,7 +72,7 @@ pub extern "C" fn celltimber_owner(
 pub extern "C" fn celltimber_member(group: &[u64], number: u64) -> u64
     ensures { λ r. ⌜ r ≡ flag (memberOf (now (group .entry)) number) ⌝ }
 {
-    flag(members::is_member(group, number))
+    flag(isolation_groups::is_member(group, number))
 }
 
 // 1 if no PE below N outside the group lists a member below N in its peer vector, else 0. 0 also where N is above its limit.

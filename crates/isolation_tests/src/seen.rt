@@ -1,6 +1,5 @@
 // Which table words are public or the group's. Tables are numbered from 0 in the order of document 01.
-use isolation_reach::marks;
-use isolation_reach::members;
+use isolation_groups;
 use profile::limits;
 use profile::limits::ENTRY_WORDS;
 use profile::limits::STATE_WORDS;
@@ -26,7 +25,7 @@ fn interrupt_seen(group: &[u64], interrupts: &[u64], index: usize) -> bool
         return true;
     }
     let pe = words::pe_word(interrupts, index / INTERRUPT_WORDS * INTERRUPT_WORDS);
-    members::is_member(group, pe)
+    isolation_groups::is_member(group, pe)
 }
 
 pub(crate) fn is_seen(
@@ -39,16 +38,16 @@ pub(crate) fn is_seen(
     ensures { λ r. ⌜ r ≡ seen (now (group .entry)) (now (interrupts .entry)) (now (marks .entry)) table index ⌝ }
 {
     if table == ENTRIES {
-        return members::is_member(group, index as u64 / ENTRY_WORDS);
+        return isolation_groups::is_member(group, index as u64 / ENTRY_WORDS);
     }
     if table == MEMORY {
-        return marks::has_mark(marks, index);
+        return isolation_groups::has_mark(marks, index);
     }
     if table == INTERRUPTS {
         return interrupt_seen(group, interrupts, index);
     }
     if table == STATE {
-        return members::is_member(group, index as u64 / STATE_WORDS);
+        return isolation_groups::is_member(group, index as u64 / STATE_WORDS);
     }
     true
 }

@@ -5,8 +5,8 @@ use kinds::lookup::Hit;
 use kinds::lookup::Owner;
 use kinds::number::ByteAddress;
 use kinds::number::PeNumber;
-use kinds::outcome;
 use kinds::outcome::Check;
+use outcomes;
 use owners;
 ghost use mathlib.Core.Path.{_≡_};
 ghost use mathlib.Core.Bool.{cond};
@@ -61,8 +61,8 @@ pub fn access_of(pes: u16, state: &[u64], hit: Hit, stopped: Answer) -> Check
     match owners::of_hit(pes, hit) {
         Owner::Of(pe) => {
             let stop = endpoints::stop_word(state, pe);
-            outcome::kept(access(hit, pe, stop, stopped))
+            outcomes::kept(access(hit, pe, stop, stopped))
         }
-        Owner::Nobody(reason) => outcome::refuse(reason),
+        Owner::Nobody(reason) => outcomes::refuse(reason),
     }
 }

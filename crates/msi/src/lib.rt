@@ -8,11 +8,11 @@ use kinds::answer::Answer;
 use kinds::answer::Reason;
 use kinds::number::ByteAddress;
 use kinds::number::PeNumber;
-use kinds::outcome;
 use kinds::outcome::Effect;
 use kinds::outcome::Outcome;
 use kinds::record::Interrupt;
 use kinds::request::Direction;
+use outcomes;
 use profile::limits::HOLDING;
 ghost use mathlib.Core.Path.{_≡_};
 ghost use Prim.Native.Nat.{_%_};
@@ -107,7 +107,7 @@ pub fn arrive(number: u64, interrupt: Interrupt) -> Outcome
 fn msi_refused(address: ByteAddress) -> Outcome
     ensures { λ r. ⌜ r ≡ failed MsiRefused address 0 ⌝ }
 {
-    outcome::failed(Reason::MsiRefused, address, 0)
+    outcomes::failed(Reason::MsiRefused, address, 0)
 }
 
 // An MSI of a PE, with its number and the words of that interrupt.

@@ -11,7 +11,8 @@ use Rattle.kinds.specs.declared.answer.Answer.{Answer}
 use Rattle.kinds.specs.declared.answer.Numbers.{Numbers}
 use Rattle.kinds.specs.declared.request.Request.{Request}
 use Rattle.handle.specs.Promise.{Handled}
-use Rattle.tables.specs.Tables.{tables, live, once}
+use Rattle.tables.specs.Tables.{tables, live}
+use Rattle.table_lists.specs.Once.{once}
 use Rattle.profile.specs.Step.{answered, after}
 use Rattle.profile.specs.Tables.{Tables, Live, entryWords, peerWords, interruptWords, windowWords, segmentCount, stateWords}
 use Rattle.replay_tables.specs.Lent.{lent, inUse}

@@ -15,7 +15,7 @@ use replay_tables::Replied;
 use replay_text;
 use replay_text::Line;
 use replay_text::Reply;
-use tables::lists;
+use table_lists;
 ghost use mathlib.Core.Path.{_≡_};
 ghost use Prim.Native.Nat.{_*_};
 ghost use lib.ListN.{take};
@@ -27,14 +27,14 @@ ghost use Rattle.replay_session.specs.Promise.{RanLine, Requested, Serve
 fn part(table: &[u64], count: u64, each: u64) -> &[u64]
     ensures { λ r. ⌜ now r ≡ take (count * each) (now (table .entry)) ⌝ }
 {
-    let end = lists::used(count, each, table.len());
+    let end = table_lists::used(count, each, table.len());
     &table[..end]
 }
 
 fn short_part(table: &[u16], count: u64, each: u64) -> &[u16]
     ensures { λ r. ⌜ now r ≡ take (count * each) (now (table .entry)) ⌝ }
 {
-    let end = lists::used(count, each, table.len());
+    let end = table_lists::used(count, each, table.len());
     &table[..end]
 }
 
@@ -53,8 +53,8 @@ fn serve_parts(
 ) -> Reply
     ensures { λ r. ⌜ ServedParts (tables sizes (now (requesters .entry)) (now (entries .entry)) (now (peers .entry)) (now (windows .entry)) (now (segments .entry))) (now (memory .entry)) (live (now (state .entry)) (now (interrupts .entry))) request r (live (now (state .exit)) (now (interrupts .exit))) ⌝ }
 {
-    let interrupt_end = lists::used(sizes.interrupts, INTERRUPT_WORDS, interrupts.len());
-    let state_end = lists::used(sizes.pes, STATE_WORDS, state.len());
+    let interrupt_end = table_lists::used(sizes.interrupts, INTERRUPT_WORDS, interrupts.len());
+    let state_end = table_lists::used(sizes.pes, STATE_WORDS, state.len());
     let answer = handle::handle(
         sizes,
         requesters,
@@ -86,7 +86,7 @@ fn serve_in(
     ensures { λ r. ⌜ Requested (lent extent (now (requesters .entry)) (now (entries .entry)) (now (memory .entry)) (now (peers .entry)) (now (interrupts .entry)) (now (windows .entry)) (now (segments .entry)) (now (state .entry))) request r (lent extent (now (requesters .entry)) (now (entries .entry)) (now (memory .entry)) (now (peers .entry)) (now (interrupts .exit)) (now (windows .entry)) (now (segments .entry)) (now (state .exit))) ⌝ }
 {
     let sizes = extent.sizes;
-    let there = lists::once(sizes.pes);
+    let there = table_lists::once(sizes.pes);
     serve_parts(
         sizes,
         short_part(requesters, sizes.requesters, 1),

@@ -12,7 +12,7 @@ use Rattle.kinds.specs.Tests.{by-cases}
 use Rattle.replay_text.specs.declared.Table.{Table}
 use Rattle.replay_text.specs.declared.Table.the-variants.{Requesters, Entries, Memory, Peers, Interrupts, Windows, Segments, State}
 use Rattle.profile.specs.Tables.{entryWords, peerWords, interruptWords, windowWords, segmentCount, stateWords}
-use Rattle.tables.specs.Tables.{once}
+use Rattle.table_lists.specs.Once.{once}
 use Rattle.replay_tables.specs.Lent.{Lent, lent, inUse, listOf, withList}
 use Rattle.replay_tables.specs.Promise.{DidSet, SetPart, mayset}
 use Rattle.replay_text.specs.SessionTables.{tableOf, fits}

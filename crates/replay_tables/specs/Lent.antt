@@ -27,7 +27,8 @@ use Rattle.replay_text.specs.declared.Table.{Table}
 use Rattle.replay_text.specs.declared.Table.the-variants.{Requesters, Entries, Memory, Peers, Interrupts, Windows, Segments, State}
 use Rattle.profile.specs.Step.{after}
 use Rattle.profile.specs.Tables.{Live, entryWords, peerWords, interruptWords, windowWords, segmentCount, stateWords}
-use Rattle.tables.specs.Tables.{lengthsOf, once}
+use Rattle.tables.specs.Tables.{lengthsOf}
+use Rattle.table_lists.specs.Once.{once}
 use Rattle.replay_text.specs.SessionTables.{Session, session, sizesOf, settable}
 use Rattle.replay_tables.specs.declared.Extent.{Extent}
 

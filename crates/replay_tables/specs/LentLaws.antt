@@ -29,7 +29,7 @@ use Rattle.profile.specs.Owner.{owner}
 use Rattle.profile.specs.RequestLaws.{after-unseen}
 use Rattle.profile.specs.Step.{decided, after}
 use Rattle.profile.specs.Tables.{Tables, Live, entryWords, peerWords, interruptWords, windowWords, segmentCount, stateWords}
-use Rattle.tables.specs.Tables.{once}
+use Rattle.table_lists.specs.Once.{once}
 use Rattle.replay_tables.specs.Lent.{Lent, lent, extentOf, usedBy, listOf, usedOf, inUse, lengthsIn, peRooms, otherRooms, peRoom, otherRoom, roomFor, cleared, clearedTo, sizeLine, withList, front, servedIn, afterIn}
 use Rattle.replay_text.specs.SessionTables.{start, emptied, tableOf, fits, storedIn, stored, settable}
 use Rattle.replay_tables.specs.declared.Extent.{Extent}

@@ -15,7 +15,7 @@ use size::clear_all;
 use size::room_for;
 use table::set_short;
 use table::set_word;
-use tables::lists::once;
+use table_lists::once;
 use tables::sizes;
 ghost use Rattle.replay_tables.specs.Lent.{lent};
 ghost use Rattle.replay_tables.specs.Promise.{DidSet, SizedTo};

@@ -1,7 +1,7 @@
 // One lent table: a word of the part in use set.
 use replay_text::Reply;
 use replay_text::bad;
-use tables::lists::used;
+use table_lists::used;
 ghost use mathlib.Core.Path.{_≡_};
 ghost use mathlib.Core.Bool.{true};
 ghost use Prim.Native.Nat.{_*_, _^_};

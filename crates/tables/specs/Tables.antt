@@ -2,12 +2,9 @@
 --     tables z q e p w g  the tables with sizes z that no request writes: requesters, translation entries, peers, windows, segments
 --     live t i            the tables that requests write: state and interrupts
 --     lengthsOf q e ..    the lengths of the lent lists
---     once n              1 where there are PEs, n, and with them windows and segments; else 0
 -- Assumes nothing.
-use mathlib.Core.Bool.{cond}
 use mathlib.Core.List.{List}
 use Prim.Native.Nat.{ℕ}
-use lib.Dec.{eqb}
 use lib.ListN.{length}
 use Rattle.kinds.specs.declared.record.Lengths.{Lengths}
 use Rattle.kinds.specs.declared.record.Sizes.{Sizes}
@@ -30,6 +27,3 @@ lengthsOf q e m p n w g t = record {
   segments = length g;
   state = length t;
 }
-
-abbrev pub once : ℕ → ℕ
-once n = cond (eqb n 0) 0 1

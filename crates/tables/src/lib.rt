@@ -1,4 +1,3 @@
-// The lent tables: their sizes and lengths, a word of them by its index, and lists as a whole. Defined in crates/profile/specs/Tables.antt and crates/kinds/specs/Words.antt.
-pub mod lists;
+// The lent tables: their sizes and lengths, and a word of them by its index. Defined in crates/profile/specs/Tables.antt and crates/kinds/specs/Words.antt.
 pub mod sizes;
 pub mod words;

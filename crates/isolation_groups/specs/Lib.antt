@@ -1,0 +1,5 @@
+pub mod Any
+pub mod AnyLaws
+pub mod Mark
+pub mod Member
+pub mod MemberLaws
