@@ -145,6 +145,7 @@ fn works() -> Vec<Work> {
         dma_work("dma-3-level-reads", 3, 1),
         Work { to_a_call: 1, ..dma_work("dma-1-one-a-call", 1, 2) },
         load_work("load-others-empty", [0, 0, 0], [0, 0, 0, 0]),
+        load_work("load-others-elsewhere", [0, 1 << 32, 0], [1 << 40, WINDOW_SIZE, 1, 0]),
         load_work("load-others-mode-0", [WINDOW_15, 1 << 32, 1], [WINDOW_15, WINDOW_SIZE, 0, 0]),
         msi_work("msi-and-end"),
         Work {
@@ -259,7 +260,7 @@ fn passing_dma(random: &mut Random, levels: u64, directions: u64) -> RequestWord
 const WINDOW_15: u64 = 3 << 40;
 const WINDOW_SIZE: u64 = 1 << 40;
 
-/// Every window but M64 15 is closed, and has these words.
+/// Every window but M64 15 is closed or elsewhere, and has these words.
 fn load_work(name: &'static str, m32: [u64; 3], m64: [u64; 4]) -> Work {
     let mut tables = Bridge::new(256, 0, REQUESTERS, 0);
     tables.windows[..3].copy_from_slice(&m32);

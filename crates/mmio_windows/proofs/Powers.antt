@@ -3,12 +3,13 @@
 --     power-is            the code's test is the definition's: x is 2 to the count of its zeros, in the range; power-below, power-above: outside it
 --     power-of            what a number that passes the test is; wider: in a wider range too
 --     multiple-is         a mask is a remainder by a power
+--     begins-placed, placed-begins    b is a without the rest by n exactly where b is a multiple of n and a is one of the n bytes from b
 --     segment-is          a shift by the exponent less 8 is a quotient by the 256th part of the size
 -- Assumes nothing.
 use mathlib.Core.Path.{_≡_, refl, sym, ap, _∙_}
 use mathlib.Core.Bool.{true, false}
 use Prim.Native.Nat.{ℕ, zero, suc, _+_, _-_, _*_, _/_, _%_, _^_, _≤_, _<_}
-use native.Mathlib.Nat.{pow-suc, le-of-suc-le-suc}
+use native.Mathlib.Nat.{pow-suc, le-of-suc-le-suc, div-add-mod, mul-mod-right, mod-le, mod-lt, mod-eq-of-lt, add-mul-mod-self-left}
 use native.Mathlib.Omega.{arith}
 use mir.Val.{Fits}
 use mir.Syntax.{w64}
@@ -85,13 +86,25 @@ pub wider : {least most : ℕ} (j k x : ℕ) → j ≤ least → most ≤ k → 
 wider j k x l m p = record { is = p .is; low = omega (arith, p .low); high = omega (arith, p .high) }
 
 -- over the exponent
-mask-is : (x n k : ℕ) → n ≡ 2 ^ k → bitAnd x (n - 1) ≡ x % n
+pub mask-is : (x n k : ℕ) → n ≡ 2 ^ k → bitAnd x (n - 1) ≡ x % n
 mask-is x n k e = rw e (and-mask x k)
 
 part-is : (n k : ℕ) → n ≡ 2 ^ k → 8 ≤ k → n / 256 ≡ 2 ^ (k - 8)
 part-is n k e h =
     let apart : k ≡ k - 8 + 8 = omega arith in
     ap (λ (m : ℕ). m / 256) (e ∙ ap (λ (i : ℕ). 2 ^ i) apart ∙ pow-add 2 (k - 8) 8) ∙ shl-shr (2 ^ (k - 8)) 8
+
+module _ (a b n : ℕ) (some : 0 < n) where
+  pub begins-placed : a - a % n ≡ b → (b % n ≡ 0) × (b ≤ a) × (a - b < n)
+  begins-placed e =
+      let whole : b ≡ n * (a / n) = omega (arith, e, div-add-mod a n) in
+      (rw whole (mul-mod-right n (a / n)), omega (arith, e), omega (arith, e, mod-le a n, mod-lt a some))
+
+  pub placed-begins : b % n ≡ 0 → b ≤ a → a - b < n → a - a % n ≡ b
+  placed-begins m l h =
+      let apart : a ≡ a - b + n * (b / n) = omega (arith, m, l, div-add-mod b n) in
+      let rest : a % n ≡ a - b = ap (λ (x : ℕ). x % n) apart ∙ add-mul-mod-self-left (a - b) n (b / n) ∙ mod-eq-of-lt h in
+      omega (arith, rest, l)
 
 module _ (n : ℕ) (p : WindowSize n) where
   pub size-some : 1 ≤ n

@@ -1,5 +1,4 @@
 -- What the functions of `mmio_windows` are proved from. `p`, `q`, `r` are what calls gave.
---     m32-takes, m32-away     a window that covers the address is asked whether it is open, another is not; m64-takes, m64-away
 --     m32-from ..         what is known of a window that takes an address: m64-from ..
 --     from-hit, from-next     one turn of the search through the M64 windows; from-end: its end
 --     route-m32, route-m64    M32 takes the address, or the M64 windows are asked
@@ -25,33 +24,6 @@ use Rattle.mmio_windows.proofs.Powers.{wider}
 use Rattle.mmio_windows.specs.Size.{WindowSize}
 use Rattle.profile.specs.Windows.{isPower, covers, segmentOf, m32Open, m64Open, m64Pe, m32Words, m64Words, m64Count, window, m64, m64From, route}
 use Rattle.mmio_windows.specs.Takes.{m32Takes, m64Takes}
-
--- what the code asks first stands last in the definition
-and-true : {p r c : Bool} (x : Bool) → p ≡ c → p ≡ true → r ≡ x → r ≡ (x && c)
-and-true true e h f = f ∙ sym h ∙ e
-and-true false e h f = f
-
-and-false : {p c : Bool} (x : Bool) → p ≡ c → p ≡ false → false ≡ (x && c)
-and-false true e h = sym h ∙ e
-and-false false e h = refl
-
-module _ {p : Bool} (b n c : ℕ) (a : ByteAddress) (e : p ≡ covers b n a) where
-  pub m32-takes : {r : Bool} → p ≡ true → r ≡ m32Open b n c → r ≡ m32Takes b n c a
-  unfolding m32Takes
-  m32-takes h f = and-true (m32Open b n c) e h f
-
-  pub m32-away : p ≡ false → false ≡ m32Takes b n c a
-  unfolding m32Takes
-  m32-away h = and-false (m32Open b n c) e h
-
-module _ {p : Bool} {b n : ℕ} (ws : List ℕ) (k : ℕ) (a : ByteAddress) (f : b ≡ at ws (m32Words + k * m64Words)) (g : n ≡ at ws (m32Words + (k * m64Words + 1))) (e : p ≡ covers b n a) where
-  pub m64-takes : {r : Bool} {w : Window} → p ≡ true → w ≡ window ws k → r ≡ m64Open w → r ≡ m64Takes (window ws k) a
-  unfolding m64Takes
-  m64-takes h v o = and-true (m64Open (window ws k)) (rw (f, g) at e) h (rw v at o)
-
-  pub m64-away : p ≡ false → false ≡ m64Takes (window ws k) a
-  unfolding m64Takes
-  m64-away h = and-false (m64Open (window ws k)) (rw (f, g) at e) h
 
 pub window-is : {b n m p : ℕ} (ws : List ℕ) (k : ℕ) → b ≡ at ws (m32Words + k * m64Words) → n ≡ at ws (m32Words + (k * m64Words + 1)) → m ≡ at ws (m32Words + (k * m64Words + 2)) → p ≡ peAt ws (m32Words + (k * m64Words + 3))
     → _≡_ {A = Window} (record { base = b; size = n; mode = m; pe = p }) (window ws k)

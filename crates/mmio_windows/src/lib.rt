@@ -1,25 +1,29 @@
 // Load and store routing: the first open window that covers an address. Defined in crates/profile/specs/Windows.antt.
-pub mod open_windows;
+mod open_windows;
 
 use kinds::lookup::Hit;
 use kinds::number::ByteAddress;
 use kinds::record::Window;
-use open_windows::m32_open;
-use open_windows::m64_open;
+use open_windows::is_placed;
+use open_windows::m32_takes;
 use profile::limits;
 use tables::words;
 ghost use mathlib.Core.Path.{_≡_};
 ghost use mathlib.Core.Bool.{true};
 ghost use Prim.Native.Nat.{_+_, _-_, _<_, _≤_};
-ghost use lib.Dec.{ltb};
 ghost use Rattle.kinds.specs.declared.lookup.Hit.the-variants.{At};
 ghost use Rattle.kinds.specs.Words.{peAt};
 ghost use Rattle.mmio_windows.specs.Size.{WindowSize};
-ghost use Rattle.profile.specs.Windows.{m64Count, covers, segmentOf, m64Pe, window, m64From, route};
+ghost use Rattle.profile.specs.Windows.{m64Count, segmentOf, m64Pe, window, m64From, route};
 ghost use Rattle.mmio_windows.specs.Takes.{m32Takes, m64Takes};
 
 // A window has 2^8 segments.
 const SEGMENT_BITS: u32 = 8;
+
+// The sizes of M64 windows, as exponents of two: 256 MiB to 2^50.
+const M64_LEAST: u32 = 28;
+
+const M64_MOST: u32 = 50;
 
 // The M64 windows: their number, and their places in the table.
 const M64_COUNT: usize = limits::M64_COUNT as usize;
@@ -28,39 +32,12 @@ const M32_WORDS: usize = limits::M32_WORDS as usize;
 
 const M64_WORDS: usize = limits::M64_WORDS as usize;
 
-// The place is before the end of the window. The end itself is not computed: it may be 2^64.
-fn before_end(base: u64, size: u64, place: u64) -> bool
-    requires { ⌜ base ≤ place ⌝ }
-    ensures { λ r. ⌜ r ≡ ltb (place - base) size ⌝ }
-{
-    place - base < size
-}
-
-fn covering(base: u64, size: u64, address: ByteAddress) -> bool
-    ensures { λ r. ⌜ r ≡ covers base size address ⌝ }
-{
-    if base <= address.0 {
-        return before_end(base, size, address.0);
-    }
-    false
-}
-
 // The segment of an address that its window covers.
 fn segment(base: u64, size: u64, address: ByteAddress) -> u64
     requires { ⌜ (base ≤ address .0) × WindowSize size ⌝ }
     ensures { λ r. ⌜ r ≡ segmentOf base size address ⌝ }
 {
     (address.0 - base) >> (u64::trailing_zeros(size) - SEGMENT_BITS)
-}
-
-// M32 is open and covers the address. Whether it covers the address is asked first: the test is short.
-fn m32_takes(base: u64, size: u64, pci: u64, address: ByteAddress) -> bool
-    ensures { λ r. ⌜ r ≡ m32Takes base size pci address ⌝ }
-{
-    if covering(base, size, address) {
-        return m32_open(base, size, pci);
-    }
-    false
 }
 
 // The PE of the segment, and the offset moved to the PCI base.
@@ -89,18 +66,22 @@ fn m64_at(windows: &[u64], k: usize) -> Window
     }
 }
 
-// M64 window k is open and covers the address. Of a window that does not cover it, two words are read.
+// M64 window k is open and covers the address. The mode is asked first: of a window that is off, no other word is read.
 fn m64_takes(windows: &[u64], k: usize, address: ByteAddress) -> bool
     requires { ⌜ k < m64Count ⌝ }
     ensures { λ r. ⌜ r ≡ m64Takes (window (now (windows .entry)) k) address ⌝ }
 {
     let row = k * M64_WORDS;
+    let mode = words::word(windows, M32_WORDS + (row + 2));
+    if mode == 0 {
+        return false;
+    }
+    if 2 < mode {
+        return false;
+    }
     let base = words::word(windows, M32_WORDS + row);
     let size = words::word(windows, M32_WORDS + (row + 1));
-    if covering(base, size, address) {
-        return m64_open(m64_at(windows, k));
-    }
-    false
+    is_placed(M64_LEAST, M64_MOST, base, size, address)
 }
 
 fn m64_pe(window: Window, address: ByteAddress) -> u64

@@ -1,19 +1,17 @@
-// Whether a window is open: its size, its base, and its PCI base or its mode.
-use kinds::record::Window;
+// Whether a window is open and covers an address: its size, its base, and the PCI base of M32. M64 windows are asked for their mode before.
+use kinds::number::ByteAddress;
+use std::num::wrapping_sub_u64;
 ghost use mathlib.Core.Path.{_≡_};
 ghost use Prim.Native.Nat.{_-_, _%_, _<_, _≤_};
 ghost use lib.Dec.{eqb};
-ghost use Rattle.profile.specs.Windows.{isPower, m32Open, m64Open};
+ghost use Rattle.profile.specs.Windows.{isPower};
 ghost use Rattle.mmio_windows.specs.Size.{WindowSize};
+ghost use Rattle.mmio_windows.specs.Takes.{placed, m32Takes};
 
-// The sizes of the windows, as exponents of two: 1 MiB to 4 GiB, 256 MiB to 2^50.
+// The sizes of M32, as exponents of two: 1 MiB to 4 GiB.
 const M32_LEAST: u32 = 20;
 
 const M32_MOST: u32 = 32;
-
-const M64_LEAST: u32 = 28;
-
-const M64_MOST: u32 = 50;
 
 // The PCI side of M32 ends here at the latest.
 const PCI_END: u64 = 0x1_0000_0000;
@@ -41,33 +39,27 @@ fn is_multiple(value: u64, size: u64) -> bool
     value & (size - 1) == 0
 }
 
-// M32: the size, the base, and the PCI base, which ends at or below 2^32.
-pub(crate) fn m32_open(base: u64, size: u64, pci: u64) -> bool
-    ensures { λ r. ⌜ r ≡ m32Open base size pci ⌝ }
+// The size is a power of two from 2^least to 2^most, the base is a multiple of it, and the window covers the address: the base is the address without
+// the bits below the size. That is asked first, since it rules most windows out; of a size that is no power of two it says nothing.
+pub(crate) fn is_placed(least: u32, most: u32, base: u64, size: u64, address: ByteAddress) -> bool
+    requires { ⌜ (least ≤ most) × (most < 64) ⌝ }
+    ensures { λ r. ⌜ r ≡ placed least most base size address ⌝ }
 {
-    if is_power(M32_LEAST, M32_MOST, size) {
-        if is_multiple(base, size) {
-            if is_multiple(pci, size) {
-                return pci <= PCI_END - size;
-            }
-            return false;
-        }
-        return false;
+    let place = address.0;
+    let below = wrapping_sub_u64(size, 1);
+    if place - (place & below) == base {
+        return is_power(least, most, size);
     }
     false
 }
 
-// An M64 window: the size, the base and the mode.
-pub(crate) fn m64_open(window: Window) -> bool
-    ensures { λ r. ⌜ r ≡ m64Open window ⌝ }
+// M32 is open and covers the address: the PCI base is a multiple of the size too, and the PCI side ends at or below 2^32.
+pub(crate) fn m32_takes(base: u64, size: u64, pci: u64, address: ByteAddress) -> bool
+    ensures { λ r. ⌜ r ≡ m32Takes base size pci address ⌝ }
 {
-    let mode = window.mode;
-    if is_power(M64_LEAST, M64_MOST, window.size) {
-        if is_multiple(window.base, window.size) {
-            if mode == 1 {
-                return true;
-            }
-            return mode == 2;
+    if is_placed(M32_LEAST, M32_MOST, base, size, address) {
+        if is_multiple(pci, size) {
+            return pci <= PCI_END - size;
         }
         return false;
     }
