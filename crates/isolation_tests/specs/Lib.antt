@@ -1,6 +1,7 @@
 pub mod Covers
 pub mod CoversCases
 pub mod Group
+pub mod GroupCases
 pub mod GroupLaws
 pub mod Seen
 pub mod SeenAlike
