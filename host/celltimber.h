@@ -125,7 +125,7 @@ enum celltimber_number {
 
     /* the most PEs (N, at least 1), interrupts (M), requesters (R, at least 1) and words of memory */
     CELLTIMBER_MOST_PES = 256,
-    CELLTIMBER_MOST_INTERRUPTS = 2048,
+    CELLTIMBER_MOST_INTERRUPTS = 4096,
     CELLTIMBER_MOST_REQUESTERS = 65536,
     CELLTIMBER_MOST_MEMORY = 1048576,
 
@@ -181,7 +181,7 @@ enum celltimber_table {
  *   entries      8N, N 1 to 256              translation entries, two records to each PE: base, levels, table code, page code
  *   memory       0 to 1,048,576              word k is at system address 8k; its bytes are in the host's order
  *   peers        4N                          a peer vector to each PE: PE k is bit k mod 64 of word k div 64
- *   interrupts   4M, M 0 to 2,048            PE, server, priority, 2P + Q
+ *   interrupts   4M, M 0 to 4,096            PE, server, priority, 2P + Q
  *   windows      67                          M32: base, size, PCI base; then 16 times M64: base, size, mode, PE
  *   segments     256                         the PE of each segment of M32
  *   state        3N                          to each PE: stop bits, then reason and value of its error record

@@ -102,7 +102,7 @@ pub const REASON_OUTSIDE_MEMORY: u64 = 15;
 
 // The most PEs, interrupts, requesters and words of memory.
 pub const MOST_PES: u64 = 256;
-pub const MOST_INTERRUPTS: u64 = 2_048;
+pub const MOST_INTERRUPTS: u64 = 4_096;
 pub const MOST_REQUESTERS: u64 = 65_536;
 pub const MOST_MEMORY: u64 = 1_048_576;
 

@@ -4,6 +4,9 @@
 // A PE (partitionable endpoint) is the unit that is stopped and released.
 // The tables are plain vectors; only `state` and `interrupts` are written.
 
+/// The most interrupts. The 32-bit window has a number for each.
+pub const MOST_INTERRUPTS: u64 = 4_096;
+
 /// Stop bits in the first state word of a PE. Its other bits stay as they are.
 pub const MMIO_STOP: u64 = 1;
 pub const DMA_STOP: u64 = 2;
@@ -90,7 +93,7 @@ fn pass(address: u64, pe: u64, words: u64) -> Answer {
 pub struct Bridge {
     /// Number of PEs, 1..256.
     pub n: u64,
-    /// Number of interrupts, 0..2048.
+    /// Number of interrupts, 0..MOST_INTERRUPTS.
     pub m: u64,
     /// Number of requesters, 1..65536.
     pub r: u64,
@@ -153,7 +156,7 @@ impl Bridge {
     fn sizes_agree(&self) -> bool {
         let length = |table: &Vec<u64>| table.len() as u64;
         (1..=256).contains(&self.n)
-            && self.m <= 2_048
+            && self.m <= MOST_INTERRUPTS
             && (1..=65_536).contains(&self.r)
             && self.requesters.len() as u64 == self.r
             && length(&self.translation) == 8 * self.n

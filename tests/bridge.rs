@@ -336,15 +336,25 @@ fn case_j() {
 /// M64 window 15 ends at 2^64.
 const LAST_M64: u64 = 0xFFFC_0000_0000_0000;
 
+/// The most interrupts; the last one, with the words of its priority and of its 2P+Q.
+const INTERRUPTS: usize = 4_096;
+const LAST: u64 = 4_095;
+const LAST_PRIORITY: usize = 16_382;
+const LAST_BITS: usize = 16_383;
+
+/// An address of the last interrupt in each MSI window.
+const NARROW: u64 = 0xFFFF_FFF0;
+const WIDE: u64 = 0x1FFF_FFFF_FFF0_FFF0;
+
 /// The largest tables: requester 65,535 is PE 255, its first record is a table in the last 4 KiB of
-/// memory, interrupt 2,047 is its own, and so are the last segments of M32 and of M64 15.
+/// memory, the last interrupt is its own, and so are the last segments of M32 and of M64 15.
 fn largest() -> Tables {
-    let mut t = Tables::new(256, 2_048, 65_536, 1_048_576);
+    let mut t = Tables::new(256, INTERRUPTS, 65_536, 1_048_576);
     t.requesters[65_535] = 255;
     t.set_entry(255, FIRST, [0x7F_F000, 1, 1, 1]);
     t.set_entry(255, SECOND, [0, 1 << 35, 31, 0]);
     t.memory[1_048_575] = 0xABCD_E003;
-    t.set_interrupt(2_047, [255, 0xFF_FFFF, 254, 0]);
+    t.set_interrupt(INTERRUPTS - 1, [255, 0xFF_FFFF, 254, 0]);
     t.set_m32([0, 0x1_0000_0000, 0]);
     t.segments[255] = 255;
     t.set_m64(15, [LAST_M64, 1 << 50, 2, 0]);
@@ -355,11 +365,11 @@ fn largest() -> Tables {
 fn of_every_kind() -> [RequestWords; 10] {
     [
         dma(65_535, READ, 0x1F_FFFC, 4, 0),
-        dma(65_535, WRITE, 0xFFFF_7FF0, 4, 0),
+        dma(65_535, WRITE, NARROW, 4, 0),
         load(0xFFFF_FFF8, 8),
         store(0xFFFF_FFFF_FFFF_FFF8, 8),
-        priority(2_047, 255),
-        end(2_047),
+        priority(LAST, 255),
+        end(LAST),
         clear(255, RECORD),
         dma(65_535, READ, 0x20_0000, 4, 0),
         error(65_535),
@@ -374,7 +384,7 @@ fn full_size_every_kind() {
     t.state[767] = 98;
     let answers = [
         pass(0xABCD_EFFC, 255, 1),
-        msi(2_047, 0xFF_FFFF, 254),
+        msi(LAST, 0xFF_FFFF, 254),
         pass(0xFFFF_FFF8, 255, 0),
         pass(0xFFFF_FFFF_FFFF_FFF8, 255, 0),
         done(),
@@ -385,7 +395,7 @@ fn full_size_every_kind() {
         refuse(2, 0),
     ];
     // The end clears the P that the MSI set. The record is cleared, then written by reason 7 alone.
-    let mut changes = vec![Interrupt(8_190, 255)];
+    let mut changes = vec![Interrupt(LAST_PRIORITY, 255)];
     changes.extend(frozen(255, 7, 0x20_0000));
     t.check_list(&of_every_kind(), &answers, &changes);
 }
@@ -422,7 +432,7 @@ fn full_size_memory() {
         t.would_freeze(dma(65_535, READ, 0, 1, 0), refuse(15, 0), (255, 15, 0));
     }
     // A table of 8 KiB at the end of a memory that lacks its last word.
-    t.resize(256, 2_048, 65_536, 1_048_575);
+    t.resize(256, INTERRUPTS, 65_536, 1_048_575);
     t.set_entry(255, FIRST, [0x7F_E000, 1, 2, 1]);
     t.memory[1_048_574] = 0x1003;
     t.keeps(dma(65_535, WRITE, 0x3F_E004, 4, 0), pass(0x1004, 255, 1));
@@ -444,7 +454,7 @@ fn full_size_peers() {
         (dma(65_535, READ, 0x2000_0000_0000_0000, 1, 0), 5, 0x2000_0000_0000_0000, 0),
         (dma(65_535, READ, 0x20_0000, 1, 0), 7, 0x20_0000, 0),
         (dma(65_535, READ, 0x1000, 1, 0), 8, 0x1000, 1),
-        (dma(65_535, READ, 0xFFFF_7FF0, 4, 0), 9, 0xFFFF_7FF0, 0),
+        (dma(65_535, READ, NARROW, 4, 0), 9, NARROW, 0),
     ];
     for (request, reason, value, words) in refused {
         let mut all = peers.to_vec();
@@ -461,7 +471,7 @@ fn full_size_peers() {
     t.check(error(7), done(), &[State(0, u64::MAX), State(765, 7)]);
     // With 255 PEs the bit of PE 255 is ignored.
     let mut t = largest();
-    t.resize(255, 2_048, 65_536, 1_048_576);
+    t.resize(255, INTERRUPTS, 65_536, 1_048_576);
     t.peers[3] = 3 << 62;
     t.freezes(error(7), done(), &[(0, 12, 7), (254, 13, 0)]);
 }
@@ -486,43 +496,46 @@ fn peers_of_n_and_above() {
 #[test]
 fn full_size_interrupts() {
     let mut t = largest();
-    // Word 8,191 is 2P+Q of interrupt 2,047, word 8,190 its priority.
-    let (narrow, wide) = (0xFFFF_7FF0, 0x1FFF_FFFF_FFF0_7FF0);
-    t.check(dma(65_535, WRITE, wide, 4, 0), msi(2_047, 0xFF_FFFF, 254), &[Interrupt(8_191, 2)]);
-    t.check(dma(65_535, WRITE, narrow, 4, 31), held(2_047), &[Interrupt(8_191, 3)]);
-    t.check(end(2_047), msi(2_047, 0xFF_FFFF, 254), &[Interrupt(8_191, 2)]);
-    t.check(priority(2_047, 255), done(), &[Interrupt(8_190, 255)]);
-    t.check(dma(65_535, WRITE, wide, 4, 0), held(2_047), &[Interrupt(8_191, 3)]);
-    t.check(end(2_047), done(), &[Interrupt(8_191, 1)]);
+    t.check(dma(65_535, WRITE, WIDE, 4, 0), msi(LAST, 0xFF_FFFF, 254), &[Interrupt(LAST_BITS, 2)]);
+    t.check(dma(65_535, WRITE, NARROW, 4, 31), held(LAST), &[Interrupt(LAST_BITS, 3)]);
+    t.check(end(LAST), msi(LAST, 0xFF_FFFF, 254), &[Interrupt(LAST_BITS, 2)]);
+    t.check(priority(LAST, 255), done(), &[Interrupt(LAST_PRIORITY, 255)]);
+    t.check(dma(65_535, WRITE, WIDE, 4, 0), held(LAST), &[Interrupt(LAST_BITS, 3)]);
+    t.check(end(LAST), done(), &[Interrupt(LAST_BITS, 1)]);
     t.check(
-        priority(2_047, 0),
-        msi(2_047, 0xFF_FFFF, 0),
-        &[Interrupt(8_190, 0), Interrupt(8_191, 2)],
+        priority(LAST, 0),
+        msi(LAST, 0xFF_FFFF, 0),
+        &[Interrupt(LAST_PRIORITY, 0), Interrupt(LAST_BITS, 2)],
     );
-    t.keeps(priority(2_047, 256), refuse(2, 0));
-    for number in [2_048, 0x1_07FF, u64::MAX] {
+    t.keeps(priority(LAST, 256), refuse(2, 0));
+    for number in [4_096, 0x1_0FFF, u64::MAX] {
         t.keeps(end(number), refuse(14, 0));
         t.keeps(priority(number, 5), refuse(14, 0));
         t.keeps(priority(number, 256), refuse(2, 0));
     }
-    // Number 2,048, the last number of each window, and numbers of another PE.
+    // Number 4,096 and the last number, which the 64-bit window alone has; numbers of another PE.
     for address in [
-        0xFFFF_8000,
-        0x1000_0000_0000_8000,
-        0xFFFF_FFF0,
+        0x1000_0000_0001_0000,
         0x1FFF_FFFF_FFFF_FFF0,
-        0xFFFF_7FE0,
+        0xFFFF_FFE0,
+        0xFFFF_7FF0,
         0x1000_0000_0000_0000,
     ] {
         t.would_freeze(dma(65_535, WRITE, address, 4, 0), refuse(9, 0), (255, 9, address));
     }
+    // With one interrupt less both windows name a number that is not below M.
+    t.resize(256, INTERRUPTS - 1, 65_536, 1_048_576);
+    for address in [NARROW, WIDE] {
+        t.would_freeze(dma(65_535, WRITE, address, 4, 0), refuse(9, 0), (255, 9, address));
+    }
+    t.keeps(end(LAST), refuse(14, 0));
     // One past the largest server, priority and state.
     for (word, value) in [(1, 1 << 24), (2, 256), (3, 4), (0, (1 << 16) + 255)] {
         let mut t = largest();
-        t.interrupts[8_188 + word] = value;
-        t.would_freeze(dma(65_535, WRITE, narrow, 4, 0), refuse(9, 0), (255, 9, narrow));
-        t.keeps(end(2_047), refuse(14, 0));
-        t.keeps(priority(2_047, 5), refuse(14, 0));
+        t.interrupts[4 * (INTERRUPTS - 1) + word] = value;
+        t.would_freeze(dma(65_535, WRITE, NARROW, 4, 0), refuse(9, 0), (255, 9, NARROW));
+        t.keeps(end(LAST), refuse(14, 0));
+        t.keeps(priority(LAST, 5), refuse(14, 0));
     }
 }
 
@@ -590,12 +603,12 @@ fn refuses_all(name: &str, mut t: Tables) {
 fn past_the_limits() {
     let t = largest();
     for (name, n, m, r, words) in [
-        ("N is 257", 257, 2_048, 65_536, 1_048_576),
-        ("M is 2,049", 256, 2_049, 65_536, 1_048_576),
-        ("R is 65,537", 256, 2_048, 65_537, 1_048_576),
-        ("memory has 1,048,577 words", 256, 2_048, 65_536, 1_048_577),
-        ("N is 0", 0, 2_048, 65_536, 1_048_576),
-        ("R is 0", 256, 2_048, 0, 1_048_576),
+        ("N is 257", 257, INTERRUPTS, 65_536, 1_048_576),
+        ("M is 4,097", 256, 4_097, 65_536, 1_048_576),
+        ("R is 65,537", 256, INTERRUPTS, 65_537, 1_048_576),
+        ("memory has 1,048,577 words", 256, INTERRUPTS, 65_536, 1_048_577),
+        ("N is 0", 0, INTERRUPTS, 65_536, 1_048_576),
+        ("R is 0", 256, INTERRUPTS, 0, 1_048_576),
     ] {
         let mut t = t.clone();
         t.resize(n, m, r, words);
@@ -610,7 +623,7 @@ fn numbers_off_the_lengths() {
     for n in [0, 255, 257, (1 << 62) + 256, u64::MAX] {
         refuses_all("N", Tables { pes: n, ..t.clone() });
     }
-    for m in [0, 2_047, 2_049, (1 << 62) + 2_048, u64::MAX] {
+    for m in [0, 4_095, 4_097, (1 << 62) + 4_096, u64::MAX] {
         refuses_all("M", Tables { interrupt_count: m, ..t.clone() });
     }
     for r in [0, 65_535, 65_537, (1 << 32) + 65_536, u64::MAX] {
@@ -632,7 +645,7 @@ fn lengths_one_off() {
     change("memory one long", |t| t.memory.push(0));
     change("peers one short", |t| t.peers.truncate(1_023));
     change("peers one long", |t| t.peers.push(0));
-    change("interrupts one short", |t| t.interrupts.truncate(8_191));
+    change("interrupts one short", |t| t.interrupts.truncate(LAST_BITS));
     change("interrupts one long", |t| t.interrupts.push(0));
     change("windows one short", |t| t.windows.truncate(66));
     change("windows one long", |t| t.windows.push(0));

@@ -209,9 +209,9 @@ impl Generator {
             _ => random.between(1, 256),
         };
         let m = match random.below(3) {
-            0 => random.pick(&[0, 1, 31, 2_047]),
-            1 => 2_048,
-            _ => random.below(2_049),
+            0 => random.pick(&[0, 1, 31, MOST_INTERRUPTS - 1]),
+            1 => MOST_INTERRUPTS,
+            _ => random.below(MOST_INTERRUPTS + 1),
         };
         let r = match random.below(3) {
             0 => random.pick(&[1, 255, 256, 65_535]),
@@ -290,11 +290,11 @@ impl Generator {
             14 => t.memory.resize(1_048_577, 3),
             // The numbers alone.
             15 => t.n = random.pick(&[0, t.n - 1, t.n + 1, 257, (1 << 62) + t.n]),
-            16 => t.m = random.pick(&[t.m + 1, 2_049, (1 << 62) + t.m]),
+            16 => t.m = random.pick(&[t.m + 1, MOST_INTERRUPTS + 1, (1 << 62) + t.m]),
             17 => t.r = random.pick(&[0, t.r - 1, t.r + 1, 65_537, (1 << 32) + t.r]),
             // One past a limit, with lengths that agree.
             18 => *t = Bridge::new(257, t.m, t.r, 1_024),
-            19 => *t = Bridge::new(t.n, 2_049, t.r, 1_024),
+            19 => *t = Bridge::new(t.n, MOST_INTERRUPTS + 1, t.r, 1_024),
             20 => *t = Bridge::new(t.n, t.m, 65_537, 1_024),
             21 => *t = Bridge::new(0, t.m, t.r, 1_024),
             _ => *t = Bridge::new(t.n, t.m, 0, 1_024),

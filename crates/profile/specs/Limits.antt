@@ -55,8 +55,8 @@ lent n m r w f x = record {
 -- the most of everything, in digits
 abbrev pub most : Limit
 most = record {
-  gives = sized (record { pes = 256; interrupts = 2048; requesters = 65536 })
-      (record { requesters = 65536; entries = 2048; memory = 1048576; peers = 1024; interrupts = 8192; windows = 67; segments = 256; state = 768 });
+  gives = sized (record { pes = 256; interrupts = 4096; requesters = 65536 })
+      (record { requesters = 65536; entries = 2048; memory = 1048576; peers = 1024; interrupts = 16384; windows = 67; segments = 256; state = 768 });
   good = true;
 }
 
@@ -75,8 +75,8 @@ sizes =
     ∷ lent 257 8 8 0 same false
     -- M
     ∷ lent 4 0 8 0 same true
-    ∷ lent 4 2048 8 0 same true
-    ∷ lent 4 2049 8 0 same false
+    ∷ lent 4 4096 8 0 same true
+    ∷ lent 4 4097 8 0 same false
     -- R
     ∷ lent 4 8 0 0 same false
     ∷ lent 4 8 1 0 same true

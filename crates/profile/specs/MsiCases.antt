@@ -7,17 +7,19 @@
 --     priorities          a priority set, from 255 and to 255 or not, for each P and Q
 --     badInterrupts       1 before 2, 2 before 14, and each condition of 14
 --     msiCases            all of them
+--     lastInterrupts      4,096 interrupts: the last in both windows, number 4,096; one interrupt more
 -- Assumes nothing.
 use mathlib.Core.Path.{_≡_, refl}
 use mathlib.Core.List.{List, [], _∷_, _++_, map}
-use Prim.Native.Nat.{ℕ, _+_, _-_, _^_}
+use Prim.Native.Nat.{ℕ, _+_, _-_, _*_, _^_}
+use lib.ListN.{replicate}
 use Rattle.kinds.specs.declared.answer.Answer.{Answer}
 use Rattle.kinds.specs.declared.answer.Answer.the-variants.{Msi, Held, Refuse, Done}
 use Rattle.kinds.specs.declared.answer.Reason.the-variants.{TableLength, BadRequest, MsiRefused, BadFirmware}
 use Rattle.kinds.specs.declared.request.Request.{Request}
 use Rattle.kinds.specs.declared.request.Request.the-variants.{End, Priority}
 use Rattle.profile.specs.Opened.{opened}
-use Rattle.profile.specs.Tables.{Live}
+use Rattle.profile.specs.Tables.{Tables, Live, interruptWords}
 use Rattle.profile.specs.Msi.{number32, number64}
 use Rattle.profile.specs.Case.{Case, plain, short, stateRow, calm, endpoints, live, idle, stopped, empty, read, write, row, refuses, freezes}
 
@@ -207,3 +209,45 @@ badInterrupts =
 unfoldable pub msiCases : List Case
 unfolding arrivals numbers badMsi endings priorities badInterrupts
 msiCases = arrivals ++ numbers ++ badMsi ++ endings ++ priorities ++ badInterrupts
+
+-- `plain` with m interrupts
+abbrev pub counted : (m : ℕ) → Tables
+counted m = record {
+  sizes = record { pes = 4; interrupts = m; requesters = 8 };
+  requesters = plain .requesters;
+  entries = plain .entries;
+  peers = plain .peers;
+  windows = plain .windows;
+  segments = plain .segments;
+}
+
+-- the last of m interrupts is PE 2's, with 2P + Q = b; nobody stopped, or PE 2 frozen by reason 9 at address a
+abbrev pub lastOf : (m : ℕ) → (state : List ℕ) → (bits : ℕ) → Live
+lastOf m l b = record { state = l; interrupts = replicate ((m - 1) * interruptWords) 0 ++ (2 ∷ 5 ∷ 6 ∷ b ∷ []) }
+
+abbrev pub lastIrq : (m bits : ℕ) → Live
+lastIrq m b = lastOf m (endpoints 4 calm) b
+
+abbrev pub lastFrozen : (m a : ℕ) → Live
+lastFrozen m a = lastOf m (calm ++ calm ++ stateRow 3 9 a ++ calm) 0
+
+-- a write of 4 bytes that is MSI 4,095 of 4,096, and one that is refused
+abbrev pub isLast : (address word : ℕ) → Case
+isLast a v = row (counted 4096) empty (lastIrq 4096 0) (write 5 a 4 v) (Msi 4095 5 6) (lastIrq 4096 2)
+
+abbrev pub pastLast : (address word : ℕ) → Case
+pastLast a v = row (counted 4096) empty (lastIrq 4096 0) (write 5 a 4 v) (Refuse MsiRefused 0) (lastFrozen 4096 a)
+
+unfoldable pub lastInterrupts : List Case
+lastInterrupts =
+    -- 4,095: by the address, and by address and data
+    isLast 0xFFFFFFF0 0
+    ∷ isLast 0x100000000000FE00 31
+    -- 4,096, which the 64-bit window alone has
+    ∷ pastLast 0x1000000000010000 0
+    -- firmware
+    ∷ row (counted 4096) empty (lastIrq 4096 3) (End 4095) (Msi 4095 5 6) (lastIrq 4096 2)
+    ∷ refuses (counted 4096) (lastIrq 4096 3) (End 4096) BadFirmware
+    -- 4,097 interrupts
+    ∷ refuses (counted 4097) (lastIrq 4097 0) (write 5 0xFFFFFFF0 4 0) TableLength
+    ∷ []

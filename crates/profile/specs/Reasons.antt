@@ -9,13 +9,14 @@ use mathlib.Core.List.{List, _++_, map}
 use Rattle.profile.specs.Case.{Case, given, stated}
 use Rattle.profile.specs.DmaCases.{dmaCases}
 use Rattle.profile.specs.WalkCases.{walkCases}
-use Rattle.profile.specs.MsiCases.{msiCases}
+use Rattle.profile.specs.MsiCases.{msiCases, lastInterrupts}
 use Rattle.profile.specs.AccessCases.{accessCases}
 use Rattle.profile.specs.FreezeCases.{freezeCases}
 
+-- the largest table is computed last
 unfoldable pub reasons : List Case
-unfolding dmaCases walkCases msiCases accessCases freezeCases
-reasons = dmaCases ++ walkCases ++ msiCases ++ accessCases ++ freezeCases
+unfolding dmaCases walkCases msiCases accessCases freezeCases lastInterrupts
+reasons = dmaCases ++ walkCases ++ msiCases ++ accessCases ++ freezeCases ++ lastInterrupts
 
 pub reasons-hold : map given reasons ≡ map stated reasons
 unfolding given stated reasons

@@ -57,7 +57,7 @@ abbrev pub mostPes : ℕ
 mostPes = 256
 
 abbrev pub mostInterrupts : ℕ
-mostInterrupts = 2048
+mostInterrupts = 4096
 
 abbrev pub mostRequesters : ℕ
 mostRequesters = 65536

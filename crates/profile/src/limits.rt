@@ -25,7 +25,7 @@ pub const SEGMENT_COUNT: u64 = 256;
 // The most PEs, interrupts, requesters and words of memory.
 pub const MOST_PES: u64 = 256;
 
-pub const MOST_INTERRUPTS: u64 = 2048;
+pub const MOST_INTERRUPTS: u64 = 4096;
 
 pub const MOST_REQUESTERS: u64 = 65536;
 
