@@ -1,5 +1,7 @@
 -- Groups as bit vectors, worked out.
---     members-hold        bits 0, 63, 64 and 255 are members 0, 63, 64 and 255; no other bit makes one, and 256 is none in any vector
+--     four, full          a vector with the bits 0, 63, 64 and 255; five words with every bit
+--     members-hold        these bits are the members 0, 63, 64 and 255; the numbers beside them are none
+--     full-hold           255 is a member where every bit is set, 256 is none
 -- Assumes nothing.
 use mathlib.Core.Path.{_≡_, refl}
 use mathlib.Core.Bool.{Bool, true, false}
