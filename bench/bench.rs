@@ -154,17 +154,19 @@ fn works() -> Vec<Work> {
             bridges: 10,
             batches: 1_000,
             to_a_call: ALL,
-            batch: Box::new(|random| vec![freezing(random)]),
-            before: clears(),
-            wanted: Box::new(|answer| answer[0] == DONE || answer[1] == 5),
+            batch: Box::new(|random| vec![error(random.below(256))]),
+            before: clears(0..256),
+            wanted: Box::new(|answer| answer[0] == DONE),
         },
+        freeze_alone_work("freeze-alone-16", 16),
+        freeze_alone_work("freeze-alone-256", 256),
         Work {
             name: "clear",
             tables: peer_tables(),
             bridges: 1,
             batches: 1_000,
             to_a_call: ALL,
-            batch: Box::new(|_| clears()),
+            batch: Box::new(|_| clears(0..256)),
             before: vec![error(0)],
             wanted: Box::new(|answer| answer[0] == DONE),
         },
@@ -342,20 +344,33 @@ fn peer_tables() -> Bridge {
     t
 }
 
-/// An error message, or a DMA whose class is not served.
-fn freezing(random: &mut Random) -> RequestWords {
-    let requester = random.below(256);
-    if random.below(2) == 0 {
-        error(requester)
-    } else {
-        dma(requester, READ, 2 << 60 | random.below(1 << 40) * 4_096, 1, 0)
+/// A DMA of each of 16 PEs among `pes`; its class is not served. No PE has peers: a bridge on which
+/// a refusal stops peers leaves the same words.
+fn freeze_alone_work(name: &'static str, pes: u64) -> Work {
+    let mut tables = Bridge::new(pes, 0, pes, 0);
+    for (k, pe) in tables.requesters.iter_mut().enumerate() {
+        *pe = k as u16;
+    }
+    let frozen = move || (0..16).map(move |k| k * (pes / 16));
+    Work {
+        name,
+        tables,
+        bridges: 4,
+        batches: 1_000,
+        to_a_call: ALL,
+        batch: Box::new(move |random| {
+            let refused = |pe| dma(pe, READ, 2 << 60 | random.below(1 << 40) * 4_096, 1, 0);
+            frozen().map(refused).collect()
+        }),
+        before: clears(frozen()),
+        wanted: Box::new(|answer| answer[1] == 5),
     }
 }
 
-/// Each PE released: both stop bits and the error record.
-fn clears() -> Vec<RequestWords> {
+/// Each of these PEs released: both stop bits and the error record.
+fn clears(pes: impl Iterator<Item = u64>) -> Vec<RequestWords> {
     let of_pe = |pe| [clear(pe, MMIO_BIT), clear(pe, DMA_BIT), clear(pe, RECORD)];
-    (0..256).flat_map(of_pe).collect()
+    pes.flat_map(of_pe).collect()
 }
 
 // ---- The bridges side by side ----

@@ -98,7 +98,8 @@ enum celltimber_answer {
     CELLTIMBER_DONE = 6    /* 0; an error message or a firmware request was obeyed */
 };
 
-/* The reason of an answer, and of an error record. In both 0 is none. 'Freezes': both stop bits of the PE and of each of its peers are set. */
+/* The reason of an answer, and of an error record. In both 0 is none. 'Freezes': both stop bits of the PE
+ * are set, and of no other PE; an error message sets those of each of its peers too. */
 enum celltimber_reason {
     CELLTIMBER_REASON_TABLE_LENGTH = 1,      /* N, M, R or a length is off its limits */
     CELLTIMBER_REASON_BAD_REQUEST = 2,       /* badly formed, or words that name no request */

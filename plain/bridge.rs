@@ -183,8 +183,8 @@ impl Bridge {
 
     // ---- Freeze ----
 
-    /// Stops the failing PE and the PEs of its own peer vector.
-    fn freeze(&mut self, failing: usize, reason: u64, value: u64) {
+    /// An error message stops its PE and the PEs of that one's own peer vector.
+    fn freeze_with_peers(&mut self, failing: usize, reason: u64, value: u64) {
         self.stop(failing, reason, value);
         for pe in 0..self.n as usize {
             let is_peer = self.peers[4 * failing + pe / 64] >> (pe % 64) & 1 == 1;
@@ -224,7 +224,7 @@ impl Bridge {
             0 => match self.translate(pe, write, address) {
                 Ok((system_address, words)) => pass(system_address, pe as u64, words),
                 Err((reason, words)) => {
-                    self.freeze(pe, reason, address);
+                    self.stop(pe, reason, address);
                     refuse(reason, words)
                 }
             },
@@ -233,7 +233,7 @@ impl Bridge {
                 self.msi(pe, write, address, length, number)
             }
             _ => {
-                self.freeze(pe, 5, address);
+                self.stop(pe, 5, address);
                 refuse(5, 0)
             }
         }
@@ -326,7 +326,7 @@ impl Bridge {
             || !self.words_good(number)
             || self.interrupts[4 * number as usize] != pe as u64
         {
-            self.freeze(pe, 9, address);
+            self.stop(pe, 9, address);
             return refuse(9, 0);
         }
         self.arrive(number)
@@ -423,7 +423,7 @@ impl Bridge {
     fn error_message(&mut self, requester: u64) -> Answer {
         match self.pe_of(requester) {
             Some(pe) => {
-                self.freeze(pe, 12, requester);
+                self.freeze_with_peers(pe, 12, requester);
                 done()
             }
             None => refuse(3, 0),

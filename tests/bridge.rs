@@ -450,17 +450,21 @@ fn full_size_peers() {
     // Peers of peers.
     t.peers[4 * 254 + 3] = 1 << 61;
     let peers = [(0, 13, 255), (64, 13, 255), (191, 13, 255), (192, 13, 255), (254, 13, 255)];
+    // A refusal stops none of them. The second record has a table past memory, or none.
+    t.set_entry(255, SECOND, [0x80_0000, 1, 1, 1]);
     let refused = [
-        (dma(65_535, READ, 0x2000_0000_0000_0000, 1, 0), 5, 0x2000_0000_0000_0000, 0),
-        (dma(65_535, READ, 0x20_0000, 1, 0), 7, 0x20_0000, 0),
-        (dma(65_535, READ, 0x1000, 1, 0), 8, 0x1000, 1),
-        (dma(65_535, READ, NARROW, 4, 0), 9, NARROW, 0),
+        (0x2000_0000_0000_0000, 5, 0),
+        (0x20_0000, 7, 0),
+        (0x1000, 8, 1),
+        (NARROW, 9, 0),
+        (1 << 59, 15, 0),
     ];
-    for (request, reason, value, words) in refused {
-        let mut all = peers.to_vec();
-        all.push((255, reason, value));
-        t.clone().freezes(request, refuse(reason, words), &all);
+    for (address, reason, words) in refused {
+        let request = dma(65_535, READ, address, 4, 0);
+        t.would_freeze(request, refuse(reason, words), (255, reason, address));
     }
+    t.set_entry(255, SECOND, [0; 4]);
+    t.would_freeze(dma(65_535, READ, 1 << 59, 4, 0), refuse(6, 0), (255, 6, 1 << 59));
     let mut all = peers.to_vec();
     all.push((255, 12, 65_535));
     t.freezes(error(65_535), done(), &all);
@@ -485,12 +489,38 @@ fn peers_of_n_and_above() {
         }
         t.would_freeze(error(0), done(), (0, 12, 0));
         t.would_freeze(dma(0, READ, 0x3ABC, 4, 0), refuse(6, 0), (0, 6, 0x3ABC));
-        // With every bit set, all PEs that there are.
+        // With every bit set, all PEs that there are; by a refusal none but its own.
         t.peers[..4].fill(u64::MAX);
+        t.would_freeze(dma(0, READ, 0x3ABC, 4, 0), refuse(6, 0), (0, 6, 0x3ABC));
         let mut all = vec![(0, 12, 0)];
         all.extend((1..n).map(|pe| (pe, 13, 0)));
         t.freezes(error(0), done(), &all);
     }
+}
+
+#[test]
+fn peers_run_on_after_a_refusal() {
+    // PE 2 lists PE 3, which is in bypass and has a window.
+    let mut t = of_the_cases();
+    t.requesters[6] = 3;
+    t.peers[8] = 1 << 3;
+    t.set_entry(3, FIRST, [1, 2, 1, 0]);
+    t.set_m64(0, [0x1000_0000, 0x1000_0000, 1, 3]);
+    let of_peer = [dma(6, WRITE, 0x100_0000, 4, 0), load(0x1000_0000, 4), store(0x1000_0000, 4)];
+    let serves = |t: &Tables, answers: [AnswerWords; 3]| {
+        for (request, answer) in of_peer.iter().zip(answers) {
+            t.clone().keeps(*request, answer);
+        }
+    };
+    let at_window = pass(0x1000_0000, 3, 0);
+    let served = [pass(0x100_0000, 3, 0), at_window, at_window];
+    t.freezes(dma(5, READ, 0x20_0000, 4, 0), refuse(7, 0), &[(2, 7, 0x20_0000)]);
+    serves(&t, served);
+    t.keeps(dma(5, READ, 0x20_0000, 4, 0), refuse(4, 0));
+    serves(&t, served);
+    // The message is obeyed although PE 2 is stopped; its record stays.
+    t.check(error(5), done(), &[State(9, 3), State(10, 13), State(11, 2)]);
+    serves(&t, [refuse(4, 0), ones(0xFFFF_FFFF), dropped()]);
 }
 
 #[test]

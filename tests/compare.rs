@@ -48,12 +48,14 @@ impl Asked {
     }
 }
 
-/// How often each answer and each reason came.
+/// How often each answer and each reason came, and how often a peer was served after a refusal had
+/// frozen a PE that lists it.
 #[derive(Default)]
 struct Counts {
     requests: u64,
     names: [u64; 7],
     reasons: [u64; 16],
+    peers: u64,
 }
 
 impl Counts {
@@ -63,10 +65,10 @@ impl Counts {
         self.reasons[answer[1] as usize] += 1;
     }
 
-    /// The count of the answer or reason that came least; 12 and 13 are in records only.
+    /// The least of these counts; 12 and 13 are in records only.
     fn least(&self) -> u64 {
         let refused = (1..=11).chain(14..=15).map(|reason| self.reasons[reason]);
-        self.names.iter().copied().chain(refused).min().unwrap_or(0)
+        self.names.iter().copied().chain(refused).chain([self.peers]).min().unwrap_or(0)
     }
 }
 
@@ -75,6 +77,8 @@ impl Counts {
 struct Pair {
     plain: Bridge,
     proved: Bridge,
+    /// Peers that were running when a refusal froze a PE that lists them, and run since.
+    spared: Vec<u64>,
 }
 
 impl Pair {
@@ -102,7 +106,29 @@ impl Pair {
         }
         self.same().map_err(told)?;
         counts.add(&wanted);
+        counts.peers += self.peer_served(asked.request, &wanted);
         Ok(wanted)
+    }
+
+    /// 1 where this answer is the first pass of a spared peer.
+    fn peer_served(&mut self, request: Request, answer: &AnswerWords) -> u64 {
+        let (t, spared) = (&self.plain, &mut self.spared);
+        let runs = |pe: u64| word(&t.state, 3, pe, 0) & 3 == 0;
+        spared.retain(|&pe| runs(pe));
+        match (request, answer[0], answer[1]) {
+            (Request::Dma { requester, .. }, REFUSE, 5..=9 | 15) => {
+                let failing = u64::from(t.requesters[requester as usize]);
+                let listed = |pe| word(&t.peers, 4, failing, pe / 64) >> (pe % 64) & 1 == 1;
+                spared.extend((0..t.n).filter(|&pe| listed(pe) && runs(pe)));
+                0
+            }
+            (_, PASS, _) => {
+                let before = spared.len();
+                spared.retain(|&pe| pe != answer[4]);
+                u64::from(spared.len() < before)
+            }
+            _ => 0,
+        }
     }
 
     /// The whole list in one call gives these answers and the tables of `after`.
@@ -164,13 +190,17 @@ fn same<T: PartialEq + LowerHex>(name: &str, proved: &[T], plain: &[T]) -> Resul
 fn compare_text(text: &[u8], counts: &mut Counts) -> Result<(), String> {
     let mut pair = Pair::default();
     for (k, line) in text.split(|&byte| byte == b'\n').enumerate() {
-        if let Some(Line::Ask(request)) = replay::parse(line) {
+        let parsed = replay::parse(line);
+        if let Some(Line::Ask(request)) = parsed {
             pair.ask(&Asked::of(request), counts).map_err(|difference| {
                 format!("line {}: {}\n{}", k + 1, String::from_utf8_lossy(line), difference)
             })?;
         } else {
             replay::take(&mut pair.plain, line);
             replay::take(&mut pair.proved, line);
+            if let Some(Line::Size { .. }) = parsed {
+                pair.spared.clear();
+            }
         }
     }
     Ok(())
@@ -225,7 +255,7 @@ impl Generator {
         };
         let frequent = [random.below(m), random.below(m), m.saturating_sub(1)];
         let plain = Bridge::new(n, m, r, words);
-        let pair = Pair { proved: plain.clone(), plain };
+        let pair = Pair { proved: plain.clone(), plain, spared: Vec::new() };
         let requester_of = vec![0; n as usize];
         let mut generator = Generator { random, pair, requester_of, frequent };
         generator.fill();
@@ -638,11 +668,12 @@ fn compare(generate: &str, seeds: u64, lines: u64) -> Result<(), String> {
     for (name, counts) in [("replay text", text), ("tables beyond it", tables)] {
         let least = counts.least();
         println!(
-            "{}: {} inputs, {} requests, no difference; every answer and reason {} times or more",
-            name, seeds, counts.requests, least
+            "{}: {} inputs, {} requests, no difference; every answer and reason {} times or more, \
+             {} of a peer after a refusal",
+            name, seeds, counts.requests, least, counts.peers
         );
         if least < 100 {
-            return Err(format!("{}: an answer or reason came {} times, not 100", name, least));
+            return Err(format!("{}: one of these came {} times, not 100", name, least));
         }
     }
     Ok(())

@@ -1084,7 +1084,7 @@ impl Generator {
         let line = self.numbers("error", &[requester]);
         self.put_text(line);
         let pe = self.word(REQUESTERS, requester);
-        self.expect_freeze(pe);
+        self.expect_message(pe);
     }
 
     fn firmware_interrupt(&mut self) -> u64 {
@@ -1150,8 +1150,30 @@ impl Generator {
 
     // ---- Release ----
 
-    /// Notes that a PE and its peers are probably stopped.
+    /// Notes that a refusal has probably stopped a PE. Its peers go on being served, and often one
+    /// of them is asked for.
     fn expect_freeze(&mut self, pe: u64) {
+        if pe < self.n {
+            self.stopped |= 1 << pe;
+            if self.random.percent(40) {
+                self.ask_peer(pe);
+            }
+        }
+    }
+
+    /// A DMA of a peer that runs, to an address that was good once.
+    fn ask_peer(&mut self, pe: u64) {
+        let running = self.word(PEERS, 4 * pe) & !self.stopped;
+        let known: Vec<Known> =
+            self.known.iter().copied().filter(|known| running >> known.pe & 1 == 1).collect();
+        if !known.is_empty() {
+            let peer = self.random.pick(&known);
+            self.put_dma(peer.pe, peer.address);
+        }
+    }
+
+    /// Notes that an error message has stopped a PE and its peers.
+    fn expect_message(&mut self, pe: u64) {
         if pe < self.n {
             self.stopped |= 1 << pe | self.word(PEERS, 4 * pe);
         }

@@ -42,10 +42,13 @@ static const uint64_t requests[][CELLTIMBER_REQUEST_WORDS] = {
     {CELLTIMBER_DMA, 7, CELLTIMBER_READ, 0x3000, 4, 0, 0, 0},
     {CELLTIMBER_ERROR, 8, 0, 0, 0, 0, 0, 0},
     {CELLTIMBER_CLEAR, 4, CELLTIMBER_RECORD, 0, 0, 0, 0, 0},
-    /* a class that is not served freezes PE 2 and its peer, PE 3 */
+    /* a class that is not served freezes PE 2, and not its peer, PE 3 */
     {CELLTIMBER_DMA, 5, CELLTIMBER_READ, 0x2000000000000000, 1, 0, 0, 0},
     {CELLTIMBER_DMA, 5, CELLTIMBER_READ, 0x3ABC, 4, 0, 0, 0},
     {CELLTIMBER_LOAD, 0x20000200000, 2, 0, 0, 0, 0, 0},
+    {CELLTIMBER_STORE, 0x10000000008, 8, 0, 0, 0, 0, 0},
+    /* an error message of PE 2 freezes its peer */
+    {CELLTIMBER_ERROR, 5, 0, 0, 0, 0, 0, 0},
     {CELLTIMBER_STORE, 0x10000000008, 8, 0, 0, 0, 0, 0},
     {CELLTIMBER_CLEAR, 2, CELLTIMBER_MMIO_BIT, 0, 0, 0, 0, 0},
     {CELLTIMBER_CLEAR, 3, CELLTIMBER_DMA_BIT, 0, 0, 0, 0, 0},

@@ -43,10 +43,13 @@ fn requests() -> Vec<RequestWords> {
         dma(7, READ, 0x3000, 4, 0),
         error(8),
         clear(4, RECORD),
-        // a class that is not served freezes PE 2 and its peer, PE 3
+        // a class that is not served freezes PE 2, and not its peer, PE 3
         dma(5, READ, 2 << 60, 1, 0),
         dma(5, READ, 0x3ABC, 4, 0),
         load((1 << 41) + 0x20_0000, 2),
+        store((1 << 40) + 8, 8),
+        // an error message of PE 2 freezes its peer
+        error(5),
         store((1 << 40) + 8, 8),
         clear(2, MMIO_BIT),
         clear(3, DMA_BIT),

@@ -17,8 +17,8 @@ use Rattle.kinds.specs.declared.number.PeNumber.{PeNumber}
 use Rattle.kinds.specs.declared.outcome.ErrorRecord.{ErrorRecord}
 use Rattle.profile.specs.Freeze.{froze}
 use Rattle.profile.specs.Tables.{stateWords}
-use Rattle.freeze.specs.Turn.{stopped, peersStopped, turned, peerTurn, endOf, frozeAll}
-use Rattle.freeze.specs.TurnLaws.{length-turned, turns-is, both-is, end-within, part-is}
+use Rattle.freeze.specs.Turn.{stopped, peersStopped, listsNobody, turned, peerTurn, endOf, frozeAll}
+use Rattle.freeze.specs.TurnLaws.{length-turned, turns-is, nobody-stopped, both-is, end-within, part-is}
 
 -- b and o are the stop word and the reason that were read
 module _ (l : List ℕ) (k r v : ℕ) {b o : ℕ} {m : List ℕ} (stop : b ≡ at l (k * stateWords)) (reason : o ≡ at l (k * stateWords + 1)) (bits : m ≡ set l (k * stateWords) (b / 4 * 4 + 3)) where
@@ -63,10 +63,14 @@ module _ (l : List ℕ) (b : ℕ) {n : ℕ} (end : n ≡ endOf (length l) b) whe
   pub part-froze : (v : List ℕ) (p : PeNumber) (e : ErrorRecord) {k : List ℕ} → k ≡ frozeAll v p e (take n l) → k ++ drop n l ≡ froze b v p e l
   part-froze v p e h = rw (h, end) (part-is l b v p e)
 
--- `freeze_all`
-pub froze-both : (v : List ℕ) (p : PeNumber) (e : ErrorRecord) (l : List ℕ) {n : ℕ} {m x : List ℕ} → n ≡ reasonNumber (e .reason)
-    → m ≡ stopped n (e .value) l (p .0) → x ≡ peersStopped v p m → x ≡ frozeAll v p e l
-froze-both v p e l f g h = h ∙ rw (g, f) (both-is v p e l)
+-- `freeze_all`: m is the state after the failing PE is stopped
+module _ (v : List ℕ) (p : PeNumber) (e : ErrorRecord) (l : List ℕ) {n : ℕ} {m : List ℕ} (number : n ≡ reasonNumber (e .reason))
+    (first : m ≡ stopped n (e .value) l (p .0)) where
+  pub froze-both : {x : List ℕ} → x ≡ peersStopped v p m → x ≡ frozeAll v p e l
+  froze-both h = h ∙ rw (first, number) (both-is v p e l)
+
+  pub froze-alone : {b : Bool} → length v ≡ 4 → b ≡ listsNobody v → b ≡ true → m ≡ frozeAll v p e l
+  froze-alone four asked h = froze-both (sym (nobody-stopped v four (sym asked ∙ h) p m))
 
 -- `stop_peers`
 module _ (v : List ℕ) (p : PeNumber) (l : List ℕ) {m : List ℕ} (k : ℕ) (same : m ≡ turns (peerTurn v p) l k) where

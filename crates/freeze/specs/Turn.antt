@@ -2,16 +2,18 @@
 --     stopped r v l k     state l with PE k stopped: both stop bits set, and the record of reason number r and value v written if the reason was 0
 --     asPeerOf v p l i x  how PE p's peers in vector v are stopped: word i, of value x, of the state l. PE p in its own vector is passed over
 --     peersStopped v p l  the state l after it
+--     listsNobody v       the four words of vector v are 0; zeroWords v: the tests of each
 --     turned b p l k      state l after the turn of PE k; b says whether PE k is in the vector; peerTurn v p: with vector v
 --     endOf n b           where the words of the PEs below b end in a state of n words
 --     frozeAll w p e l    state l after a freeze, if every word is that of a PE below N
 -- Assumes nothing.
 use mathlib.Core.Bool.{Bool, cond, not, _&&_}
-use mathlib.Core.List.{List}
+use mathlib.Core.List.{List, [], _∷_}
 use Prim.Native.Nat.{ℕ, _+_, _*_, _/_}
 use lib.Dec.{ltb, eqb}
 use lib.ListN.{set}
 use Rattle.kinds.specs.Answer.{reasonNumber}
+use Rattle.kinds.specs.Tests.{all}
 use Rattle.kinds.specs.Words.{at, mapAt, bitOf}
 use Rattle.kinds.specs.declared.answer.Reason.the-variants.{FrozenAsPeer}
 use Rattle.kinds.specs.declared.number.PeNumber.{PeNumber}
@@ -31,6 +33,12 @@ asPeerOf v p l i x =
 
 abbrev pub peersStopped : List ℕ → PeNumber → List ℕ → List ℕ
 peersStopped v p l = mapAt (asPeerOf v p l) 0 l
+
+abbrev pub zeroWords : List ℕ → List Bool
+zeroWords v = eqb (at v 0) 0 ∷ eqb (at v 1) 0 ∷ eqb (at v 2) 0 ∷ eqb (at v 3) 0 ∷ []
+
+abbrev pub listsNobody : List ℕ → Bool
+listsNobody v = all (zeroWords v)
 
 unfoldable pub turned : Bool → PeNumber → List ℕ → ℕ → List ℕ
 turned b p l k = cond (b && not (eqb k (p .0))) (stopped (reasonNumber FrozenAsPeer) (p .0) l k) l

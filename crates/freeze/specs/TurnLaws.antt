@@ -3,29 +3,31 @@
 --     at-stopped          the words of a PE that is stopped are marked, and no others
 --     at-turned           a turn marks the words of its PE, and no others
 --     turns-is            turns for all words stop the peers
+--     nobody-stopped      a vector of zeros stops no peer
 --     both-is             the failing PE stopped, and then its peers: the freeze of a state of PEs below N
 --     end-within, part-is the freeze of the words of the PEs below N is the freeze
 -- Assumes nothing.
 use mathlib.Core.Path.{_≡_, refl, sym, _∙_}
 use mathlib.Core.Bool.{Bool, true, false, cond, not, _&&_}
 use mathlib.Core.List.{List, _++_}
-use Prim.Native.Nat.{ℕ, _+_, _*_, _/_, _%_, _<_, _≤_}
+use Prim.Native.Nat.{ℕ, zero, suc, _+_, _*_, _/_, _%_, _<_, _≤_}
+use native.Mathlib.Nat.{zero-div}
 use native.Mathlib.Omega.{arith}
 use lib.Dec.{ltb, eqb}
 use lib.ListN.{length, take, drop, length-set}
 use lib.Seq.{ext-getD, getD-take, take-length, length-take-le, length-front}
 use borrow.Author.Tests.{lt-ltb, le-ltb, ltb-true, ltb-false, eqb-true, eqb-false}
 use Rattle.kinds.specs.Answer.{reasonNumber}
-use Rattle.kinds.specs.Tests.{by-cases, and-left, and-true, and-false}
+use Rattle.kinds.specs.Tests.{by-cases, and-left, and-true, and-false, all-true}
 use Rattle.kinds.specs.Turns.{turns}
 use Rattle.kinds.specs.TurnsLaws.{at-place, at-first, turns-mapAt}
 use Rattle.kinds.specs.Words.{at, bitOf}
-use Rattle.kinds.specs.WordsLaws.{at-front, at-mapAt, length-mapAt}
+use Rattle.kinds.specs.WordsLaws.{at-out, at-front, at-mapAt, length-mapAt}
 use Rattle.kinds.specs.declared.number.PeNumber.{PeNumber}
 use Rattle.kinds.specs.declared.outcome.ErrorRecord.{ErrorRecord}
 use Rattle.profile.specs.Freeze.{asPeer, marked, frozen, ofPes, froze}
 use Rattle.profile.specs.Tables.{stateWords}
-use Rattle.freeze.specs.Turn.{stopped, asPeerOf, peersStopped, turned, peerTurn, endOf, frozeAll}
+use Rattle.freeze.specs.Turn.{stopped, asPeerOf, peersStopped, zeroWords, listsNobody, turned, peerTurn, endOf, frozeAll}
 
 -- a word of one state or of another
 at-either : (b : Bool) (l m : List ℕ) (i : ℕ) → at (cond b l m) i ≡ cond b (at l i) (at m i)
@@ -90,6 +92,22 @@ module _ (v : List ℕ) (p : PeNumber) where
 
   pub turns-is : (l : List ℕ) (n : ℕ) → length l ≤ n * stateWords → turns (peerTurn v p) l n ≡ peersStopped v p l
   turns-is l n h = turns-mapAt stateWords (omega arith) (asPeerOf v p) (peerTurn v p) length-turned turn-reads at-turned l n h
+
+-- a vector of four words that are 0
+module _ (v : List ℕ) (four : length v ≡ 4) (none : listsNobody v ≡ true) where
+  word-none : (j : ℕ) → at v j ≡ 0
+  word-none zero = eqb-true (at v 0) 0 (all-true (zeroWords v) 0 none)
+  word-none (suc zero) = eqb-true (at v 1) 0 (all-true (zeroWords v) 1 none)
+  word-none (suc (suc zero)) = eqb-true (at v 2) 0 (all-true (zeroWords v) 2 none)
+  word-none (suc (suc (suc zero))) = eqb-true (at v 3) 0 (all-true (zeroWords v) 3 none)
+  word-none (suc (suc (suc (suc j)))) = let n = suc (suc (suc (suc j))) in at-out v n (le-ltb n (length v) (omega (arith, four)))
+
+  pub nobody-stopped : (p : PeNumber) (l : List ℕ) → peersStopped v p l ≡ l
+  unfolding asPeerOf
+  nobody-stopped p l =
+      ext-getD 0 (peersStopped v p l) l (length-mapAt (asPeerOf v p l) 0 l)
+      (λ i h. let g : i < length l = rw (length-mapAt (asPeerOf v p l) 0 l) at h in
+      rw (at-mapAt, lt-ltb i (length l) g, word-none (i / stateWords / 64), zero-div))
 
 -- the failing PE, then its peers
 module _ (v : List ℕ) (p : PeNumber) (e : ErrorRecord) where

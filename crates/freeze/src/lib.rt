@@ -1,4 +1,4 @@
-// The freeze of a PE with its peers: stop bits and error records. Defined in crates/profile/specs/Freeze.antt.
+// The freeze of a PE, alone or with its peers: stop bits and error records. Defined in crates/profile/specs/Freeze.antt.
 use endpoints::STATE_WORDS;
 use endpoints::is_listed;
 use kinds::answer::Reason;
@@ -12,9 +12,9 @@ ghost use Prim.Native.Nat.{_+_, _*_, _^_, _<_};
 ghost use lib.ListN.{length};
 ghost use Rattle.profile.specs.Freeze.{froze};
 ghost use Rattle.profile.specs.Tables.{stateWords};
-ghost use Rattle.freeze.specs.Turn.{stopped, turned, peersStopped, endOf, frozeAll};
+ghost use Rattle.freeze.specs.Turn.{stopped, turned, listsNobody, peersStopped, endOf, frozeAll};
 
-// PE `pe` and every PE below N in its peer vector are stopped, as one step.
+// PE `pe` and every PE below N in `peers` are stopped, as one step. A freeze alone has a vector of zeros.
 pub fn freeze(state: &mut [u64], pes: u64, peers: [u64; 4], pe: PeNumber, error: ErrorRecord)
     ensures { λ _. ⌜ now (state .exit) ≡ froze pes peers pe error (now (state .entry)) ⌝ }
 {
@@ -33,14 +33,33 @@ fn end_of(words: usize, pes: u64) -> usize
     words
 }
 
-// The freeze where every word is that of a PE below N: the failing PE, then its peers.
+// The freeze where every word is that of a PE below N: the failing PE, then its peers, if it lists any.
 fn freeze_all(state: &mut [u64], peers: [u64; 4], pe: PeNumber, error: ErrorRecord)
     ensures { λ _. ⌜ now (state .exit) ≡ frozeAll peers pe error (now (state .entry)) ⌝ }
 {
     let reason = error.reason;
     let number = reason_number(reason);
     stop(state, pe.0 as usize, number, error.value);
+    if lists_nobody(peers) {
+        return;
+    }
     stop_peers(state, peers, pe);
+}
+
+// Whether no bit of a peer vector is set.
+fn lists_nobody(vector: [u64; 4]) -> bool
+    ensures { λ r. ⌜ r ≡ listsNobody vector ⌝ }
+{
+    if vector[0] != 0 {
+        return false;
+    }
+    if vector[1] != 0 {
+        return false;
+    }
+    if vector[2] != 0 {
+        return false;
+    }
+    vector[3] == 0
 }
 
 // Every PE in the vector is stopped as a peer of PE `pe`. The last turn is for words that are not all those of a PE.

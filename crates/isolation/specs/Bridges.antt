@@ -116,7 +116,7 @@ load a w = Load (record { 0 = a }) w
 
 unfoldable pub list : List Request
 list =
-    -- PE 0 is frozen as a peer, released, translates, presents an MSI, and freezes PE 3 in turn
+    -- PE 0 is frozen as a peer, released, translates, presents an MSI, and is frozen by a refusal
     Error 3
     ∷ dma 2 Write 0x403010 0
     ∷ dma 0 Write 0x3ABC 0
@@ -137,7 +137,7 @@ list =
 
 unfoldable pub other : List Request
 other =
-    -- PE 0 is stopped from the start, released, translates by another table, and freezes PE 3
+    -- PE 0 is stopped from the start, released, translates by another table, and freezes PE 3 by an error message
     dma 2 Write 0x403010 0
     ∷ dma 1 Read 0x1000000 0
     ∷ dma 0 Write 0x3ABC 0

@@ -369,7 +369,7 @@ needed SameInterruptsLength = differs 1 false (read 1 ∷ []) refl refl refl
 needed SameStateLength = differs 1 false (read 1 ∷ []) refl refl refl
 -- requester 0 is PE 0, which has no entry, in the first and PE 1 in the second; both are members
 needed SameRequesters = differs 1 true (read 0 ∷ []) refl refl refl
--- PE 0 lists PE 1 in the second
+-- PE 0 lists PE 1 in the second, and an error message of PE 0 stops it
 needed SamePeers = differs 2 false (Error 0 ∷ read 1 ∷ []) refl refl refl
 -- another PCI base in the second
 needed SameWindows = differs 0x10000000 false (inSegment 1 ∷ []) refl refl refl

@@ -6,7 +6,7 @@
 --                         ownStops, own-stops: the group's stop words, whose upper bits are those of w
 --     all-differ          each of all these words differs between the two bridges
 --     list-answers, other-answers     what each request of the two lists is answered: one DMA of PE 0 passes to different addresses, by page tables that
---                         differ; its MSI is presented; others freeze, with peers, are released and are refused
+--                         differ; its MSI is presented; others freeze, alone and with peers, are released and are refused
 --     group-answers       what the group is answered: not only refusals; group-left: what is left to it; outside-left: to PEs 0 and 3
 --     witness             THE CLAIM at these two bridges and lists
 -- Assumes nothing.

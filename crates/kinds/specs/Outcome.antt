@@ -2,10 +2,10 @@
 --     passed p a n        a pass of PE p to address a with n table words read: nothing is changed
 --     kept a              answer a: nothing is changed
 --     refused r           a refusal with no table word read: nothing is changed
---     failed r a n        a refusal that freezes, with the peers: the record's value is the address of the request
+--     failed r a n        a refusal that freezes the PE, alone: the record's value is the address of the request
 --     done e              done, with effect e
 -- Assumes nothing.
-use mathlib.Core.Bool.{true}
+use mathlib.Core.Bool.{false}
 use Prim.Native.Nat.{ℕ}
 use Rattle.kinds.specs.declared.answer.Answer.{Answer}
 use Rattle.kinds.specs.declared.answer.Answer.the-variants.{Pass, Refuse, Done}
@@ -26,7 +26,7 @@ abbrev pub refused : Reason → Outcome
 refused r = kept (Refuse r 0)
 
 abbrev pub failed : Reason → ByteAddress → (words : ℕ) → Outcome
-failed r a n = record { answer = Refuse r n; effect = Freeze (record { reason = r; value = a .0 }) true }
+failed r a n = record { answer = Refuse r n; effect = Freeze (record { reason = r; value = a .0 }) false }
 
 abbrev pub done : Effect → Outcome
 done e = record { answer = Done; effect = e }

@@ -35,7 +35,7 @@ pub fn refused(reason: Reason) -> Outcome
     }
 }
 
-// A refusal that freezes the PE with its peers.
+// A refusal that freezes the PE, alone.
 pub fn failed(reason: Reason, address: ByteAddress, words: u64) -> Outcome
     ensures { λ r. ⌜ r ≡ spec.failed reason address words ⌝ }
 {
@@ -45,7 +45,10 @@ pub fn failed(reason: Reason, address: ByteAddress, words: u64) -> Outcome
     };
     Outcome {
         answer: Answer::Refuse { reason, words },
-        effect: Effect::Freeze { error, peers: true },
+        effect: Effect::Freeze {
+            error,
+            peers: false,
+        },
     }
 }
 

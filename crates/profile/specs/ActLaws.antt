@@ -3,6 +3,7 @@
 --     act-agrees          the same effect at a member, on two bridges that agree, keeps that they agree
 --     act-keeps           no effect changes the PE word of an interrupt
 --     no-peers            a freeze alone lists nobody; froze-past: a freeze leaves every word from PE N on, whatever bits are set
+--     takes x             effect x takes peers along; act-others: one that takes none leaves every word of the state of another PE
 -- A new effect adds a clause to each.
 -- Assumes nothing.
 use mathlib.Core.Path.{_≡_, refl, sym, _∙_}
@@ -232,6 +233,39 @@ module _ {G : PeNumber → Bool} {n : ℕ} {s t : Live} (r : Same G n s t) where
   act-agrees k w p u (Freeze e b) = froze-agrees k (taken b w p) p e
   act-agrees k w p u (Release c) = released-agrees c p u
   act-agrees k w p u (Interrupt i v b) = interrupt-written k w p i v b
+
+-- ---- an effect that takes no peers
+
+abbrev pub takes : Effect → Bool
+takes Keep = false
+takes (Freeze e b) = b
+takes (Release c) = false
+takes (Interrupt i v b) = false
+
+module _ (n : ℕ) (v : List ℕ) (p : PeNumber) (s : Live) (i : ℕ) (away : ¬ (i / stateWords ≡ p .0)) where
+  set-other : (j x : ℕ) (l : List ℕ) → j / stateWords ≡ p .0 → at (set l j x) i ≡ at l i
+  set-other j x l e = getD-set-other l j i x _ (λ z. away (rw z e))
+
+  froze-other : (e : ErrorRecord) (l : List ℕ) → at (froze n noPeers p e l) i ≡ at l i
+  unfolding frozen
+  froze-other e l =
+      rw (at-mapAt, ne-eqb (i / stateWords) (p .0) away, no-peers (i / stateWords))
+      (by-cases (ltb i (length l))
+      (λ o. rw o (by-cases (ltb (i / stateWords) n) (λ h. rw h) (λ h. rw h)))
+      (λ o. rw (o, at-out l i o)))
+
+  released-other : (c : Part) (l : List ℕ) → at (released c p l) i ≡ at l i
+  unfolding released
+  released-other Mmio l = set-other (stopWord p) _ l (omega arith)
+  released-other Dma l = set-other (stopWord p) _ l (omega arith)
+  released-other Record l = set-other (valueWord p) 0 (set l (reasonWord p) 0) (omega arith) ∙ set-other (reasonWord p) 0 l (omega arith)
+
+  pub act-others : (e : Effect) → takes e ≡ false → at (act n v p e s .state) i ≡ at (s .state) i
+  unfolding act
+  act-others Keep h = refl
+  act-others (Freeze e b) h = rw h (froze-other e (s .state))
+  act-others (Release c) h = released-other c (s .state)
+  act-others (Interrupt j x b) h = refl
 
 -- ---- what no effect changes
 

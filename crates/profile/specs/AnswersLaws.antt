@@ -1,6 +1,9 @@
--- Laws of all answers: reasons 12 and 13 are for error records only, and reason 1 is for every request alike.
+-- Laws of all answers: reasons 12 and 13 are for error records only, a refusal stops no PE but its own, and reason 1 is for every request alike.
 --     shown a             answer a carries neither number 12 nor 13
 --     answered-shown      no answer carries them, on any tables
+--     fits a x            effect x goes with answer a: a freeze takes peers where its reason is 12 and the answer has none; else its reason is the answer's
+--     decided-fits        so, with answered-shown, WHETHER PEERS ARE TAKEN follows from the reason, on any tables
+--     refused-others      a request that is answered with a reason leaves every word of the state of each PE but its owner
 --     unsized-answered    on tables that 01's table of lengths does not allow every answer is reason 1, with no word read
 --     unsized-keeps       and nothing changes
 -- Assumes nothing.
@@ -10,8 +13,10 @@ use mathlib.Core.List.{List}
 use Prim.Native.Nat.{ℕ, _*_, _/_, _%_}
 use lib.Dec.{ltb, eqb}
 use lib.ListN.{length}
-use Rattle.kinds.specs.Answer.{numbered}
+use borrow.Author.Tests.{eq-eqb}
+use Rattle.kinds.specs.Answer.{reasonNumber, numbered}
 use Rattle.kinds.specs.Checked.{Checked, Kept, Ready, Walk}
+use Rattle.kinds.specs.Tests.{clash, and-left, and-right}
 use Rattle.kinds.specs.Words.{at}
 use Rattle.kinds.specs.declared.answer.Answer.{Answer}
 use Rattle.kinds.specs.declared.answer.Answer.the-variants.{Ones, Drop, Refuse}
@@ -28,9 +33,10 @@ use Rattle.kinds.specs.declared.lookup.Translated.the-variants.{To, Fault}
 use Rattle.kinds.specs.declared.number.ByteAddress.{ByteAddress}
 use Rattle.kinds.specs.declared.number.PageSize.{PageSize}
 use Rattle.kinds.specs.declared.number.PeNumber.{PeNumber}
-use Rattle.kinds.specs.declared.outcome.Effect.the-variants.{Keep}
+use Rattle.kinds.specs.declared.outcome.Effect.{Effect}
+use Rattle.kinds.specs.declared.outcome.Effect.the-variants.{Keep, Freeze, Release, Interrupt}
 use Rattle.kinds.specs.declared.outcome.Outcome.{Outcome}
-use Rattle.kinds.specs.declared.record.Interrupt.{Interrupt}
+use Rattle.kinds.specs.declared.record.Interrupt as interrupts
 use Rattle.kinds.specs.declared.record.Sizes.{Sizes}
 use Rattle.kinds.specs.declared.record.TranslationEntry.{TranslationEntry}
 use Rattle.kinds.specs.declared.request.AddressClass.{AddressClass}
@@ -47,14 +53,23 @@ use Rattle.profile.specs.Msi.{holding, interruptIn, interrupt, ranged, n
 use Rattle.profile.specs.Firmware.{onGood, ends, prioritized}
 use Rattle.profile.specs.Windows.{route, onesOf}
 use Rattle.profile.specs.Step.{formed, outcomeOf, byEntry, served, dmaAsked, accessed, ask, asked, checked, finish, act, actBy, decided, answered, after}
+use Rattle.profile.specs.Agree.{peOf}
+use Rattle.profile.specs.ActLaws.{takes, act-others}
 use Rattle.profile.specs.Owner.{ofRequester, ofInterrupt, ofHit, ownerIn, owner}
 
 unfoldable pub shown : Answer → Bool
 shown a = not (eqb (numbered a .reason) 12) && not (eqb (numbered a .reason) 13)
 
+abbrev pub fits : Answer → Effect → Bool
+fits a Keep = true
+fits a (Freeze e b) =
+    cond b (eqb (reasonNumber (e .reason)) 12 && eqb (numbered a .reason) 0) (eqb (reasonNumber (e .reason)) (numbered a .reason))
+fits a (Release c) = true
+fits a (Interrupt i n b) = true
+
 -- the answers that an outcome, what was checked, a translation, or an owner stands for
 abbrev outcomeShown : Outcome → Bool
-outcomeShown o = shown (o .answer)
+outcomeShown o = fits (o .answer) (o .effect) && shown (o .answer)
 
 abbrev checkedShown : Checked → Bool
 checkedShown (Kept a) = shown a
@@ -96,13 +111,13 @@ pages-shown m e d o = landed-shown (pageSize e) d o (walkedPage m e (pageOf e o)
 outcomeOf-shown : (p : PeNumber) (a : ByteAddress) (t : Translated) (n : ℕ) → translatedShown t ≡ true → outcomeShown (outcomeOf p a t n) ≡ true
 unfolding outcomeOf shown
 outcomeOf-shown p a (To x) n h = refl
-outcomeOf-shown p a (Fault r j) n h = h
+outcomeOf-shown p a (Fault r j) n h = rw (h, eq-eqb (reasonNumber r) (reasonNumber r) refl)
 
 announced-shown : (i v p b : ℕ) → shown (announced i v p b) ≡ true
 unfolding announced shown
 announced-shown i v p b = either shown (presents p b) refl refl
 
-delivered-shown : (p : PeNumber) (a : ByteAddress) (i : ℕ) (e : Interrupt) → outcomeShown (delivered p a i e) ≡ true
+delivered-shown : (p : PeNumber) (a : ByteAddress) (i : ℕ) (e : interrupts.Interrupt) → outcomeShown (delivered p a i e) ≡ true
 unfolding delivered shown
 delivered-shown p a i e =
     either outcomeShown (eqb (e .pe) (p .0))
@@ -112,18 +127,18 @@ msi-shown : (c : ℕ) (l : List ℕ) (p : PeNumber) (a : ByteAddress) (i : ℕ) 
 unfolding msi shown
 msi-shown c l p a i ok = either outcomeShown (ok && ltb i c) (delivered-shown p a i (interruptIn l i)) refl
 
-ends-shown : (i : ℕ) (e : Interrupt) → outcomeShown (ends i e) ≡ true
+ends-shown : (i : ℕ) (e : interrupts.Interrupt) → outcomeShown (ends i e) ≡ true
 unfolding ends shown
 ends-shown i e =
     either outcomeShown (ltb (e .bits) 2) refl
     (either outcomeShown (eqb (e .bits) 2) refl (either outcomeShown (eqb (e .priority) holding) refl refl))
 
-prioritized-shown : (i n : ℕ) (e : Interrupt) → outcomeShown (prioritized i n e) ≡ true
+prioritized-shown : (i n : ℕ) (e : interrupts.Interrupt) → outcomeShown (prioritized i n e) ≡ true
 unfolding prioritized shown
 prioritized-shown i n e =
     either outcomeShown (eqb (e .priority) holding && not (eqb n holding) && eqb (e .bits % 2) 1) (announced-shown i (e .server) n (e .bits / 2 * 2)) refl
 
-onGood-shown : (e : Interrupt) (o : Outcome) → outcomeShown o ≡ true → outcomeShown (onGood e o) ≡ true
+onGood-shown : (e : interrupts.Interrupt) (o : Outcome) → outcomeShown o ≡ true → outcomeShown (onGood e o) ≡ true
 unfolding shown
 onGood-shown e o h = either outcomeShown (ranged e) h refl
 
@@ -205,9 +220,40 @@ module _ (z : Sizes) (requesters entries windows segments : List ℕ) (s : Live)
       either checkedShown ok
       (either checkedShown (formed q) (asked-shown q _ (owner-shown z requesters windows segments (s .interrupts) q)) refl) refl
 
-pub answered-shown : (f : Tables) (m : List ℕ) (s : Live) (q : Request) → shown (answered f m s q) ≡ true
-answered-shown f m s q =
-    finish-shown m _ (checked-shown (f .sizes) (f .requesters) (f .entries) (f .windows) (f .segments) s (sized (f .sizes) (lengths f (length m) s)) q)
+module _ (f : Tables) (m : List ℕ) (s : Live) (q : Request) where
+  decided-shown : outcomeShown (decided f m s q) ≡ true
+  decided-shown =
+      finish-shown m _ (checked-shown (f .sizes) (f .requesters) (f .entries) (f .windows) (f .segments) s (sized (f .sizes) (lengths f (length m) s)) q)
+
+  pub answered-shown : shown (answered f m s q) ≡ true
+  answered-shown = and-right (fits (answered f m s q) (decided f m s q .effect)) (shown (answered f m s q)) decided-shown
+
+  pub decided-fits : fits (answered f m s q) (decided f m s q .effect) ≡ true
+  decided-fits = and-left (fits (answered f m s q) (decided f m s q .effect)) (shown (answered f m s q)) decided-shown
+
+-- ---- a refusal
+
+-- an effect that goes with an answer that has a reason takes no peers
+takes-none : (a : Answer) (x : Effect) → fits a x ≡ true → eqb (numbered a .reason) 0 ≡ false → takes x ≡ false
+takes-none a Keep h r = refl
+takes-none a (Freeze e true) h r = clash (and-right (eqb (reasonNumber (e .reason)) 12) (eqb (numbered a .reason) 0) h) r
+takes-none a (Freeze e false) h r = refl
+takes-none a (Release c) h r = refl
+takes-none a (Interrupt i n b) h r = refl
+
+owner-others : (f : Tables) (s : Live) (i : ℕ) (o : Owner) (x : Effect) → takes x ≡ false → ¬ (o ≡ Of (peOf i))
+    → at (actBy f o x s .state) i ≡ at (s .state) i
+unfolding actBy
+owner-others f s i (Of p) x h away = act-others (f .sizes .pes) (f .peers) p s i (λ e. away (rw e)) x h
+owner-others f s i (Nobody r) x h away = refl
+
+pub refused-others : (f : Tables) (m : List ℕ) (s : Live) (q : Request) → eqb (numbered (answered f m s q) .reason) 0 ≡ false
+    → (i : ℕ) → ¬ (owner f s q ≡ Of (peOf i)) → at (after f m s q .state) i ≡ at (s .state) i
+refused-others f m s q r i away =
+    owner-others f s i (owner f s q) (decided f m s q .effect)
+    (takes-none (answered f m s q) (decided f m s q .effect) (decided-fits f m s q) r) away
+
+-- ---- reason 1
 
 kept : (f : Tables) (s : Live) (o : Owner) → actBy f o Keep s ≡ s
 unfolding actBy act

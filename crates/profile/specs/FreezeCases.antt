@@ -1,6 +1,8 @@
--- Error messages, freezing with peers, and release by firmware.
+-- Error messages, freezing alone and with peers, and release by firmware.
 --     messages            1 before 3, and 3; a message of a PE that is stopped is obeyed
 --     peerCases           which PEs are peers, and what they get
+--     refusals            each of the six reasons that freeze, on tables where the PE lists all: no other PE gets a stop bit or a record, and a peer is
+--                         served as before. An error message there stops all
 --     records             what stands in a state already: error records, senseless words, upper bits of stop words
 --     wideCases           256 PEs: the words and bits of a peer vector; no interrupt at all
 --     clears              each part alone; 14
@@ -8,24 +10,30 @@
 --     Acting              an effect at a PE, done directly, on tables that reason 1 would refuse too; freezing: of a freeze
 --     bounds              states of more words than N PEs have, and of fewer; a freeze alone
 --     bounds-hold         THE STATEMENT over them: the definition leaves what the row says
+--     misfits             freezes that go with no such answer: by the flag, by the reason, or by both
+--     misfits-hold        none of them fits
 -- Assumes nothing.
 use mathlib.Core.Path.{_≡_, refl}
 use mathlib.Core.Bool.{Bool, true, false}
 use mathlib.Core.List.{List, [], _∷_, _++_, map}
 use Prim.Native.Nat.{ℕ, _+_, _-_, _*_, _^_}
 use lib.ListN.{replicate}
+use Rattle.kinds.specs.declared.answer.Answer.{Answer}
 use Rattle.kinds.specs.declared.answer.Answer.the-variants.{Refuse, Done}
-use Rattle.kinds.specs.declared.answer.Reason.the-variants.{TableLength, UnknownRequester, AddressClass, BadEntry, MsiRefused, ErrorMessage, BadFirmware}
+use Rattle.kinds.specs.declared.answer.Reason.{Reason}
+use Rattle.kinds.specs.declared.answer.Reason.the-variants.{TableLength, UnknownRequester, DmaStopped, AddressClass, BadEntry, OutsideWindow, TableWord, MsiRefused, ErrorMessage, BadFirmware, OutsideMemory}
 use Rattle.kinds.specs.declared.number.PeNumber.{PeNumber}
 use Rattle.kinds.specs.declared.outcome.Effect.{Effect}
 use Rattle.kinds.specs.declared.outcome.Effect.the-variants.{Freeze}
+use Rattle.kinds.specs.declared.outcome.Outcome.{Outcome}
 use Rattle.kinds.specs.declared.request.Part.{Part}
 use Rattle.kinds.specs.declared.request.Part.the-variants.{Mmio, Dma, Record}
 use Rattle.kinds.specs.declared.request.Request.the-variants.{Error, Clear}
 use Rattle.profile.specs.Opened.{opened}
-use Rattle.profile.specs.Tables.{Tables, Live, peerWords, windowWords, segmentCount}
+use Rattle.profile.specs.Tables.{Tables, Live, entryWords, peerWords, windowWords, segmentCount}
 use Rattle.profile.specs.Step.{act}
-use Rattle.profile.specs.Case.{Case, peered, short, wide, stateRow, calm, endpoints, quiet, idle, endpoint, states, stopped, empty, read, write, row, refuses}
+use Rattle.profile.specs.AnswersLaws.{fits}
+use Rattle.profile.specs.Case.{Case, none, peered, short, wide, stateRow, calm, endpoints, quiet, idle, endpoint, states, stopped, empty, read, write, pass, row, keeps, refuses}
 
 -- PE 2's peer vector, the others' empty
 abbrev pub vector : (a b c d : ℕ) → Tables
@@ -66,13 +74,44 @@ peerCases =
     ∷ message (peered (4 ∷ 0 ∷ 0 ∷ 0 ∷ 4 ∷ 0 ∷ 0 ∷ 0 ∷ 0 ∷ 0 ∷ 0 ∷ 0 ∷ 4 ∷ 0 ∷ 0 ∷ 0 ∷ [])) idle (endpoint 3 12 5)
     ∷ message (peered (8 ∷ 0 ∷ 0 ∷ 0 ∷ 1 ∷ 0 ∷ 0 ∷ 0 ∷ 2 ∷ 0 ∷ 0 ∷ 0 ∷ 4 ∷ 0 ∷ 0 ∷ 0 ∷ [])) idle
     (states calm (stateRow 3 13 2) (stateRow 3 12 5) calm)
-    -- each refusal that freezes takes the peers with it
-    ∷ row (vector 2 0 0 0) empty idle (read 5 0x2000000000000000 4) (Refuse AddressClass 0)
-    (states calm (stateRow 3 13 2) (stateRow 3 5 0x2000000000000000) calm)
-    ∷ row (vector 2 0 0 0) empty idle (read 5 0x3ABC 4) (Refuse BadEntry 0) (states calm (stateRow 3 13 2) (stateRow 3 6 0x3ABC) calm)
-    ∷ row (vector 2 0 0 0) empty idle (read 5 0xFFFF0070 4) (Refuse MsiRefused 0)
-    (states calm (stateRow 3 13 2) (stateRow 3 9 0xFFFF0070) calm)
     ∷ []
+
+-- PE 2, whose vector lists all four PEs, has a table whose words from 40 on are outside memory, and no second record; PE 1 is in bypass
+abbrev pub listing : Tables
+listing = record {
+  sizes = alone .sizes;
+  requesters = alone .requesters;
+  entries = replicate entryWords 0 ++ ((1 ∷ 2 ∷ 1 ∷ 0 ∷ none) ++ ((0x5000 ∷ 1 ∷ 1 ∷ 1 ∷ none) ++ replicate entryWords 0));
+  peers = vector 15 0 0 0 .peers;
+  windows = alone .windows;
+  segments = alone .segments;
+}
+
+-- PEs 0 and 1 have an empty record, PE 3 has one that firmware did not clear; none of them is stopped
+abbrev pub running : (failing : List ℕ) → Live
+running r = states calm calm r (stateRow 4 8 0x1000)
+
+-- a refusal freezes PE 2 alone, and PE 1 is served after it as before
+abbrev pub stopsOne : (address : ℕ) → Reason → (words number : ℕ) → List Case
+stopsOne a r w k =
+    row listing empty (running calm) (read 5 a 4) (Refuse r w) (running (stateRow 3 k a))
+    ∷ keeps listing empty (running (stateRow 3 k a)) (read 1 0x1000000 4) (pass 0x1000000 1 0)
+    ∷ []
+
+unfoldable pub refusals : List Case
+refusals =
+    -- 5, 6, 7, 8, 9 and 15
+    stopsOne 0x2000000000000000 AddressClass 0 5
+    ++ stopsOne 0x800000000003ABC BadEntry 0 6
+    ++ stopsOne 0x200000 OutsideWindow 0 7
+    ++ stopsOne 0x3ABC TableWord 1 8
+    ++ stopsOne 0xFFFF0070 MsiRefused 0 9
+    ++ stopsOne 0x28000 OutsideMemory 0 15
+    -- an error message on the same tables stops every PE, and PE 1 is refused then
+    ++ (row listing empty (running calm) (Error 5) Done
+    (states (stateRow 3 13 2) (stateRow 3 13 2) (stateRow 3 12 5) (stateRow 7 8 0x1000))
+    ∷ keeps listing empty (states (stateRow 3 13 2) (stateRow 3 13 2) (stateRow 3 12 5) (stateRow 7 8 0x1000)) (read 1 0x1000000 4) (Refuse DmaStopped 0)
+    ∷ [])
 
 unfoldable pub records : List Case
 records =
@@ -139,8 +178,8 @@ clears =
     ∷ []
 
 unfoldable pub freezeCases : List Case
-unfolding messages peerCases records wideCases clears
-freezeCases = messages ++ peerCases ++ records ++ wideCases ++ clears
+unfolding messages peerCases refusals records wideCases clears
+freezeCases = messages ++ peerCases ++ refusals ++ records ++ wideCases ++ clears
 
 -- ---- the effect alone
 
@@ -181,3 +220,25 @@ bounds =
 pub bounds-hold : map (λ c. act (c .pes) (c .peers) (c .pe) (c .effect) (farLeft (c .met))) bounds ≡ map (λ c. farLeft (c .left)) bounds
 unfolding opened bounds
 bounds-hold = refl
+
+-- ---- answers and freezes
+
+-- a freeze of a reason, with peers or alone, beside an answer
+abbrev pub beside : Answer → Reason → (peers : Bool) → Outcome
+beside a r b = record { answer = a; effect = Freeze (record { reason = r; value = 0 }) b }
+
+unfoldable pub misfits : List Outcome
+misfits =
+    -- a refusal with peers, under its own reason and under 12
+    beside (Refuse BadEntry 0) BadEntry true
+    ∷ beside (Refuse BadEntry 0) ErrorMessage true
+    -- an error message alone, and with peers under another reason
+    ∷ beside Done ErrorMessage false
+    ∷ beside Done BadEntry true
+    -- a refusal alone under another reason
+    ∷ beside (Refuse BadEntry 0) OutsideWindow false
+    ∷ []
+
+pub misfits-hold : map (λ o. fits (o .answer) (o .effect)) misfits ≡ map (λ o. false) misfits
+unfolding misfits
+misfits-hold = refl

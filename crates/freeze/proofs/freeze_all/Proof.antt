@@ -13,14 +13,23 @@ cast-stop c = search needs
 stop-requires : tie.Need-stop-requires
 stop-requires c κs = search needs
 
-stop-peers-requires : tie.Need-stop-peers-requires
-stop-peers-requires c κs = search needs
+lists-nobody-requires : tie.Need-lists-nobody-requires
+lists-nobody-requires c κs = search needs
 
 same-length : tie.Need-same-length
 same-length c = search needs
 
 returns : tie.Need-returns
-returns c = search laws.froze-both
+returns c = search laws.froze-alone
+
+stop-peers-requires : tie.Need-stop-peers-requires
+stop-peers-requires c κs = search needs
+
+same-length-2 : tie.Need-same-length-2
+same-length-2 c = search needs
+
+returns-2 : tie.Need-returns-2
+returns-2 c = search laws.froze-both
 
 pub freeze-all-spec : {M : Type 1} → statement M
 freeze-all-spec =
@@ -29,6 +38,9 @@ freeze-all-spec =
     reason-number-requires
     cast-stop
     stop-requires
-    stop-peers-requires
+    lists-nobody-requires
     same-length
-    returns)
+    returns
+    stop-peers-requires
+    same-length-2
+    returns-2)
