@@ -10,7 +10,9 @@
 //
 // Compiled with `--cfg base` it has the proved code of another commit too: the three are the plain
 // bridge on words, the base and the new code. The base has to take the arguments of
-// `host/celltimber.rs`, with the same words in tables, requests and answers.
+// `host/celltimber.rs`, with the same words in tables, requests and answers; of a PE's state it may
+// lack the last words. It then knows no word that a walk stopped at, and what it lacks is not
+// compared.
 //
 // The requests come in batches. All three serve a batch before the next one is made. They take
 // turns at being first, and at each of the three copies of the tables. Answers and words are
@@ -30,14 +32,14 @@ mod plain_words;
 #[allow(dead_code)]
 mod random;
 
-/// The function of the base. `bench/run` writes the included file: `host/celltimber.rs`, with the
-/// symbol of the base.
+/// The function of the base. `bench/run` writes the included file: the base's own
+/// `host/celltimber.rs`, with the symbol of the base.
 #[cfg(base)]
 #[path = "."]
 #[allow(dead_code)]
 mod base {
     use super::bridge;
-    mod celltimber {
+    pub mod celltimber {
         include!("../target/bench/base/celltimber.rs");
     }
     #[path = "../tests/plain_words.rs"]
@@ -60,6 +62,7 @@ const NO_ANSWER: Answer = Answer {
     reason: UNWRITTEN,
     value: UNWRITTEN,
     words: UNWRITTEN,
+    word: UNWRITTEN,
     pe: None,
     server: None,
     priority: None,
@@ -412,6 +415,12 @@ const PROGRAMS: [Program; 3] = [VALUES, PLAIN, PROVED];
 #[cfg(base)]
 const PROGRAMS: [Program; 3] = [PLAIN, BASE, PROVED];
 
+/// The words of a PE's state in the base.
+#[cfg(not(base))]
+const BASE_STATE_WORDS: usize = STATE_WORDS;
+#[cfg(base)]
+const BASE_STATE_WORDS: usize = base::celltimber::STATE_WORDS;
+
 /// The requests of a batch as words and as values, and room for answers as values.
 struct Batch {
     words: Vec<u64>,
@@ -421,6 +430,7 @@ struct Batch {
 
 /// The tables of the bridges of one side, the requests to a call, the answers of each, and how many
 /// were served.
+#[derive(Clone)]
 struct Side {
     bridges: Vec<Bridge>,
     to_a_call: usize,
@@ -522,12 +532,14 @@ impl Sides {
         for side in &mut self.0 {
             side.clear_answers(requests.len());
         }
+        self.cut_state(turn);
         let mut times = [0.0; 3];
         for k in ORDERS[turn % ORDERS.len()] {
             let start = Instant::now();
             (PROGRAMS[k].serve)(&mut self.0[side_of(k, turn)], &mut batch);
             times[k] = start.elapsed().as_nanos() as f64 / all as f64;
         }
+        self.fill_up(turn);
         // `serve_values` leaves no words.
         if !cfg!(base) {
             self.0[side_of(0, turn)].answers =
@@ -540,10 +552,48 @@ impl Sides {
     /// All serve the same requests, with no time taken.
     fn prepare(&mut self, requests: &[RequestWords], turn: usize) {
         let words = requests.concat();
+        self.cut_state(turn);
         for k in ORDERS[turn % ORDERS.len()] {
             let side = &mut self.0[side_of(k, turn)];
             side.clear_answers(requests.len());
             side.serve(&words, PROGRAMS[k].run);
+        }
+        self.fill_up(turn);
+    }
+
+    /// Leaves out of the base's side the state words that the base lacks. All sides are written, so
+    /// that the caches hold them alike.
+    fn cut_state(&mut self, turn: usize) {
+        if BASE_STATE_WORDS == STATE_WORDS {
+            return;
+        }
+        for (k, words) in [STATE_WORDS, BASE_STATE_WORDS, STATE_WORDS].into_iter().enumerate() {
+            for tables in &mut self.0[side_of(k, turn)].bridges {
+                let all = tables.state.clone();
+                tables.state.clear();
+                tables.state.extend(all.chunks(STATE_WORDS).flat_map(|all| &all[..words]));
+            }
+        }
+    }
+
+    /// Puts in what the base lacks, as the plain bridge has it.
+    fn fill_up(&mut self, turn: usize) {
+        if BASE_STATE_WORDS == STATE_WORDS {
+            return;
+        }
+        let places = [side_of(0, turn), side_of(1, turn)];
+        let [plain, base] = self.0.get_disjoint_mut(places).expect("two sides");
+        for (plain, base) in plain.bridges.iter().zip(&mut base.bridges) {
+            let served = base.state.clone();
+            base.state.clone_from(&plain.state);
+            let words = served.chunks(BASE_STATE_WORDS);
+            for (words, all) in words.zip(base.state.chunks_mut(STATE_WORDS)) {
+                all[..BASE_STATE_WORDS].copy_from_slice(words);
+            }
+        }
+        let answers = plain.answers.chunks(ANSWER_WORDS);
+        for (plain, base) in answers.zip(base.answers.chunks_mut(ANSWER_WORDS)) {
+            base[AT_WORD] = plain[AT_WORD];
         }
     }
 
@@ -565,28 +615,29 @@ impl Sides {
             return Ok(());
         }
         let before = Bridge { state, interrupts, ..work.tables.clone() };
-        Err(difference(&before, requests))
+        Err(difference(before, requests))
     }
 }
 
-/// The first request that differs, all served one by one from these tables.
-fn difference(tables: &Bridge, requests: &[RequestWords]) -> String {
-    for program in &PROGRAMS {
-        let (mut plain, mut other) = (tables.clone(), tables.clone());
-        for (k, request) in requests.iter().enumerate() {
-            let (mut wanted, mut given) = ([UNWRITTEN; ANSWER_WORDS], [UNWRITTEN; ANSWER_WORDS]);
-            run_plain(&mut plain, request, &mut wanted);
-            (program.run)(&mut other, request, &mut given);
-            if wanted != given || plain != other {
-                let words = if plain == other { "the same" } else { "other" };
+/// The first request that differs, all served one by one from these tables. The first program is a
+/// plain one.
+fn difference(tables: Bridge, requests: &[RequestWords]) -> String {
+    let side = Side { bridges: vec![tables], to_a_call: 1, answers: Vec::new(), served: 0 };
+    let mut sides = Sides([side.clone(), side.clone(), side]);
+    for (k, request) in requests.iter().enumerate() {
+        sides.prepare(&[*request], 0);
+        let plain = &sides.0[0];
+        for (program, side) in PROGRAMS.iter().zip(&sides.0) {
+            let same = side.bridges == plain.bridges;
+            if side.answers != plain.answers || !same {
                 return format!(
                     "request {} {:x?}: {} {:x?}, plain {:x?}, {} words left",
                     k + 1,
                     request,
                     program.name,
-                    given,
-                    wanted,
-                    words
+                    side.answers,
+                    plain.answers,
+                    if same { "the same" } else { "other" }
                 );
             }
         }

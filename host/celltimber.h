@@ -76,15 +76,16 @@ enum celltimber_part {
 
 /* ---- Answers ---- */
 
-/* Eight words each: the place of each. The eighth word, at 7, is 0. What an answer does not have is 0. */
+/* Eight words each: the place of each. What an answer does not have is 0. */
 enum celltimber_answer_word {
     CELLTIMBER_AT_NAME = 0,
     CELLTIMBER_AT_REASON = 1,
     CELLTIMBER_AT_VALUE = 2,
-    CELLTIMBER_AT_WORDS = 3,   /* the count of table words read */
-    CELLTIMBER_AT_PE = 4,      /* of CELLTIMBER_PASS */
-    CELLTIMBER_AT_SERVER = 5,  /* of CELLTIMBER_MSI */
-    CELLTIMBER_AT_PRIORITY = 6 /* of CELLTIMBER_MSI */
+    CELLTIMBER_AT_WORDS = 3,    /* the count of table words read */
+    CELLTIMBER_AT_PE = 4,       /* of CELLTIMBER_PASS */
+    CELLTIMBER_AT_SERVER = 5,   /* of CELLTIMBER_MSI */
+    CELLTIMBER_AT_PRIORITY = 6, /* of CELLTIMBER_MSI */
+    CELLTIMBER_AT_WORD = 7      /* of reasons 8 and 15: the system address of the table word that the walk stopped at */
 };
 
 /* The name of an answer, and what its value is. */
@@ -135,7 +136,7 @@ enum celltimber_number {
     CELLTIMBER_RECORD_WORDS = 4,
     CELLTIMBER_PEER_WORDS = 4,
     CELLTIMBER_INTERRUPT_WORDS = 4,
-    CELLTIMBER_STATE_WORDS = 3,
+    CELLTIMBER_STATE_WORDS = 4,
 
     /* the words of all windows: those of M32 first, then those of the 16 M64 windows; the segments of M32 */
     CELLTIMBER_WINDOW_WORDS = 67,
@@ -185,7 +186,7 @@ enum celltimber_table {
  *   interrupts   4M, M 0 to 4,096            PE, server, priority, 2P + Q
  *   windows      67                          M32: base, size, PCI base; then 16 times M64: base, size, mode, PE
  *   segments     256                         the PE of each segment of M32
- *   state        3N                          to each PE: stop bits, then reason and value of its error record
+ *   state        4N                          to each PE: stop bits, then reason, value and word of its error record
  *
  * A replay text names its tables by the same words, but for entries, which are 'translation' there.
  *

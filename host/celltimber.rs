@@ -63,7 +63,7 @@ pub fn priority(interrupt: u64, priority: u64) -> RequestWords {
 
 // ---- Answers ----
 
-// The place of each word in an answer; the eighth word is 0.
+// The place of each word in an answer.
 pub const AT_NAME: usize = 0;
 pub const AT_REASON: usize = 1;
 pub const AT_VALUE: usize = 2;
@@ -71,6 +71,7 @@ pub const AT_WORDS: usize = 3;
 pub const AT_PE: usize = 4;
 pub const AT_SERVER: usize = 5;
 pub const AT_PRIORITY: usize = 6;
+pub const AT_WORD: usize = 7;
 
 // The first word of an answer.
 pub const PASS: u64 = 0;
@@ -112,7 +113,7 @@ pub const ENTRY_WORDS: usize = 8;
 pub const RECORD_WORDS: usize = 4;
 pub const PEER_WORDS: usize = 4;
 pub const INTERRUPT_WORDS: usize = 4;
-pub const STATE_WORDS: usize = 3;
+pub const STATE_WORDS: usize = 4;
 
 // The words of all windows: those of M32 first, then those of the M64 windows. The segments of M32.
 pub const WINDOW_WORDS: usize = 67;

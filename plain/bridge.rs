@@ -60,6 +60,8 @@ pub struct Answer {
     pub value: u64,
     /// Table words read.
     pub words: u64,
+    /// The system address of the table word that the walk stopped at under 8 and 15, or 0.
+    pub word: u64,
     /// Given with a pass only.
     pub pe: Option<u64>,
     /// Given with a presented MSI only.
@@ -69,7 +71,7 @@ pub struct Answer {
 }
 
 fn answer(name: Name, reason: u64, value: u64, words: u64) -> Answer {
-    Answer { name, reason, value, words, pe: None, server: None, priority: None }
+    Answer { name, reason, value, words, word: 0, pe: None, server: None, priority: None }
 }
 
 fn refuse(reason: u64, words: u64) -> Answer {
@@ -111,7 +113,7 @@ pub struct Bridge {
     pub windows: Vec<u64>,
     /// PE of each M32 segment.
     pub segments: Vec<u16>,
-    /// Stop bits, reason and value of the error record.
+    /// Stop bits; reason, value and word of the error record.
     pub state: Vec<u64>,
 }
 
@@ -129,7 +131,7 @@ impl Bridge {
             interrupts: vec![0; 4 * m as usize],
             windows: vec![0; 67],
             segments: vec![0; 256],
-            state: vec![0; 3 * n as usize],
+            state: vec![0; 4 * n as usize],
         }
     }
 
@@ -165,7 +167,7 @@ impl Bridge {
             && length(&self.interrupts) == 4 * self.m
             && length(&self.windows) == 67
             && self.segments.len() == 256
-            && length(&self.state) == 3 * self.n
+            && length(&self.state) == 4 * self.n
     }
 
     /// The PE of a requester, if it is known.
@@ -185,21 +187,22 @@ impl Bridge {
 
     /// An error message stops its PE and the PEs of that one's own peer vector.
     fn freeze_with_peers(&mut self, failing: usize, reason: u64, value: u64) {
-        self.stop(failing, reason, value);
+        self.stop(failing, reason, value, 0);
         for pe in 0..self.n as usize {
             let is_peer = self.peers[4 * failing + pe / 64] >> (pe % 64) & 1 == 1;
             if is_peer && pe != failing {
-                self.stop(pe, 13, failing as u64);
+                self.stop(pe, 13, failing as u64, 0);
             }
         }
     }
 
     /// Sets both stop bits of one PE; its error record is written only if empty.
-    fn stop(&mut self, pe: usize, reason: u64, value: u64) {
-        self.state[3 * pe] |= MMIO_STOP | DMA_STOP;
-        if self.state[3 * pe + 1] == 0 {
-            self.state[3 * pe + 1] = reason;
-            self.state[3 * pe + 2] = value;
+    fn stop(&mut self, pe: usize, reason: u64, value: u64, word: u64) {
+        self.state[4 * pe] |= MMIO_STOP | DMA_STOP;
+        if self.state[4 * pe + 1] == 0 {
+            self.state[4 * pe + 1] = reason;
+            self.state[4 * pe + 2] = value;
+            self.state[4 * pe + 3] = word;
         }
     }
 
@@ -213,7 +216,7 @@ impl Bridge {
             Some(pe) => pe,
             None => return refuse(3, 0),
         };
-        if self.state[3 * pe] & DMA_STOP != 0 {
+        if self.state[4 * pe] & DMA_STOP != 0 {
             return refuse(4, 0);
         }
         match address >> 60 {
@@ -223,9 +226,9 @@ impl Bridge {
             }
             0 => match self.translate(pe, write, address) {
                 Ok((system_address, words)) => pass(system_address, pe as u64, words),
-                Err((reason, words)) => {
-                    self.stop(pe, reason, address);
-                    refuse(reason, words)
+                Err((reason, words, word)) => {
+                    self.stop(pe, reason, address, word);
+                    Answer { word, ..refuse(reason, words) }
                 }
             },
             1 => {
@@ -233,31 +236,37 @@ impl Bridge {
                 self.msi(pe, write, address, length, number)
             }
             _ => {
-                self.stop(pe, 5, address);
+                self.stop(pe, 5, address, 0);
                 refuse(5, 0)
             }
         }
     }
 
-    /// The system address and the words read, or the reason and the words read.
-    fn translate(&self, pe: usize, write: bool, address: u64) -> Result<(u64, u64), (u64, u64)> {
+    /// The system address and the words read; or the reason, the words read and the address of the
+    /// word that the walk stopped at.
+    fn translate(
+        &self,
+        pe: usize,
+        write: bool,
+        address: u64,
+    ) -> Result<(u64, u64), (u64, u64, u64)> {
         let first = 8 * pe + if address >> 59 & 1 == 1 { 4 } else { 0 };
         let offset = address & ((1 << 59) - 1);
         let entry = &self.translation[first..first + 4];
         let table_code = entry[2];
         let page_code = entry[3];
         if table_code < 1 || table_code > 31 {
-            return Err((6, 0));
+            return Err((6, 0, 0));
         }
 
         if page_code == 0 {
             // Bypass, in units of 16 MiB.
             let (start, end) = (entry[0], entry[1]);
             if start >= end || end > 1 << 35 {
-                return Err((6, 0));
+                return Err((6, 0, 0));
             }
             if offset < start << 24 || offset >= end << 24 {
-                return Err((7, 0));
+                return Err((7, 0, 0));
             }
             return Ok((offset, 0));
         }
@@ -265,22 +274,22 @@ impl Bridge {
         let (base, levels) = (entry[0], entry[1]);
         let page_bits = match page_code {
             1 | 5 | 13 | 17 => page_code + 11,
-            _ => return Err((6, 0)),
+            _ => return Err((6, 0, 0)),
         };
         if levels < 1 || levels > 5 {
-            return Err((6, 0));
+            return Err((6, 0, 0));
         }
         let index_bits = table_code + 8;
         let table_bytes = 8u64 << index_bits;
         if base % table_bytes != 0 {
-            return Err((6, 0));
+            return Err((6, 0, 0));
         }
         let window_bits = page_bits + levels * index_bits;
         if window_bits > 59 {
-            return Err((6, 0));
+            return Err((6, 0, 0));
         }
         if offset >= 1 << window_bits {
-            return Err((7, 0));
+            return Err((7, 0, 0));
         }
 
         let index =
@@ -288,29 +297,30 @@ impl Bridge {
         let mut table = base;
         let mut words = 0;
         for level in (1..levels).rev() {
-            let word = self.table_word(table, index(level)).ok_or((15, words))?;
+            let number = table / 8 + index(level);
+            let word = self.memory_word(number).ok_or((15, words, 8 * number))?;
             words += 1;
             if word & 3 == 0 {
-                return Err((8, words));
+                return Err((8, words, 8 * number));
             }
             table = word & !0xFFF;
             if table % table_bytes != 0 {
-                return Err((8, words));
+                return Err((8, words, 8 * number));
             }
         }
-        let word = self.table_word(table, index(0)).ok_or((15, words))?;
+        let number = table / 8 + index(0);
+        let word = self.memory_word(number).ok_or((15, words, 8 * number))?;
         words += 1;
         let valid = if write { 2 } else { 1 };
         if word & valid == 0 {
-            return Err((8, words));
+            return Err((8, words, 8 * number));
         }
         let in_page = (1 << page_bits) - 1;
         Ok(((word & !in_page) | (offset & in_page), words))
     }
 
-    /// A word of a table, if it is in memory. The table is a multiple of 8.
-    fn table_word(&self, table: u64, index: u64) -> Option<u64> {
-        let number = table / 8 + index;
+    /// A word of memory by its number, if it is there.
+    fn memory_word(&self, number: u64) -> Option<u64> {
         if number < self.memory.len() as u64 {
             Some(self.memory[number as usize])
         } else {
@@ -326,7 +336,7 @@ impl Bridge {
             || !self.words_good(number)
             || self.interrupts[4 * number as usize] != pe as u64
         {
-            self.stop(pe, 9, address);
+            self.stop(pe, 9, address, 0);
             return refuse(9, 0);
         }
         self.arrive(number)
@@ -380,7 +390,7 @@ impl Bridge {
             Some((pci_address, pe)) if pe < self.n => (pci_address, pe),
             _ => return refuse(10, 0),
         };
-        if self.state[3 * pe as usize] & MMIO_STOP != 0 {
+        if self.state[4 * pe as usize] & MMIO_STOP != 0 {
             return if load {
                 answer(Name::Ones, 11, all_ones, 0)
             } else {
@@ -436,13 +446,14 @@ impl Bridge {
         if pe >= self.n {
             return refuse(14, 0);
         }
-        let at = 3 * pe as usize;
+        let at = 4 * pe as usize;
         match part {
             Part::Mmio => self.state[at] &= !MMIO_STOP,
             Part::Dma => self.state[at] &= !DMA_STOP,
             Part::Record => {
                 self.state[at + 1] = 0;
                 self.state[at + 2] = 0;
+                self.state[at + 3] = 0;
             }
         }
         done()

@@ -35,6 +35,11 @@ fn refuse(reason: u64, words: u64) -> AnswerWords {
     [REFUSE, reason, 0, words, 0, 0, 0, 0]
 }
 
+/// The walk stopped at this word.
+fn refuse_at(word: u64, reason: u64, words: u64) -> AnswerWords {
+    [REFUSE, reason, 0, words, 0, 0, 0, word]
+}
+
 fn done() -> AnswerWords {
     [DONE, 0, 0, 0, 0, 0, 0, 0]
 }
@@ -71,8 +76,9 @@ enum Change {
 use Change::{Interrupt, State};
 
 /// A PE whose words were 0 is frozen: both stop bits, then the error record.
-fn frozen(pe: usize, reason: u64, value: u64) -> [Change; 3] {
-    [State(3 * pe, 3), State(3 * pe + 1, reason), State(3 * pe + 2, value)]
+fn frozen(pe: usize, reason: u64, value: u64, word: u64) -> [Change; 4] {
+    let at = 4 * pe;
+    [State(at, 3), State(at + 1, reason), State(at + 2, value), State(at + 3, word)]
 }
 
 impl Tables {
@@ -105,7 +111,7 @@ impl Tables {
         self.memory.resize(memory_words, 0);
         self.peers.resize(4 * n, 0);
         self.interrupts.resize(4 * m, 0);
-        self.state.resize(3 * n, 0);
+        self.state.resize(4 * n, 0);
     }
 
     fn set_entry(&mut self, pe: usize, record: usize, words: [u64; 4]) {
@@ -195,11 +201,12 @@ impl Tables {
         self.check(request, answer, &[]);
     }
 
-    /// PEs whose words were 0 are frozen, with these reasons and values; nothing else changes.
+    /// PEs whose words were 0 are frozen, with these reasons and values and the answer's last word;
+    /// nothing else changes.
     #[track_caller]
     fn freezes(&mut self, request: RequestWords, answer: AnswerWords, pes: &[(usize, u64, u64)]) {
-        let changes: Vec<Change> =
-            pes.iter().flat_map(|&(pe, reason, value)| frozen(pe, reason, value)).collect();
+        let of_pe = |&(pe, reason, value)| frozen(pe, reason, value, answer[AT_WORD]);
+        let changes: Vec<Change> = pes.iter().flat_map(of_pe).collect();
         self.check(request, answer, &changes);
     }
 
@@ -255,7 +262,7 @@ fn case_b() {
     let mut t = of_the_cases();
     t.set_word(0x2FF8, 0x7777_7002);
     t.keeps(dma(5, WRITE, 0x1F_FFFF, 1, 0), pass(0x7777_7FFF, 2, 1));
-    t.freezes(dma(5, READ, 0x1F_FFFF, 1, 0), refuse(8, 1), &[(2, 8, 0x1F_FFFF)]);
+    t.freezes(dma(5, READ, 0x1F_FFFF, 1, 0), refuse_at(0x2FF8, 8, 1), &[(2, 8, 0x1F_FFFF)]);
     t.keeps(dma(5, WRITE, 0x1F_FFFF, 1, 0), refuse(4, 0));
 }
 
@@ -380,8 +387,7 @@ fn of_every_kind() -> [RequestWords; 10] {
 #[test]
 fn full_size_every_kind() {
     let mut t = largest();
-    t.state[766] = 99;
-    t.state[767] = 98;
+    t.state[1_021..].copy_from_slice(&[99, 98, 97]);
     let answers = [
         pass(0xABCD_EFFC, 255, 1),
         msi(LAST, 0xFF_FFFF, 254),
@@ -396,7 +402,7 @@ fn full_size_every_kind() {
     ];
     // The end clears the P that the MSI set. The record is cleared, then written by reason 7 alone.
     let mut changes = vec![Interrupt(LAST_PRIORITY, 255)];
-    changes.extend(frozen(255, 7, 0x20_0000));
+    changes.extend(frozen(255, 7, 0x20_0000, 0));
     t.check_list(&of_every_kind(), &answers, &changes);
 }
 
@@ -426,17 +432,19 @@ fn full_size_memory() {
     t.keeps(dma(65_535, READ, 0x0FFF_FFFF_FFFF_FFFF, 1, 0), pass(0x07FF_FFFF_FFFF_FFFF, 255, 0));
     // A lower table and a first table that start one past memory.
     t.memory[1_048_575] = 0x80_0003;
-    t.would_freeze(dma(65_535, READ, 0x3FFF_F123, 1, 0), refuse(15, 1), (255, 15, 0x3FFF_F123));
+    let lower = refuse_at(0x80_0FF8, 15, 1);
+    t.would_freeze(dma(65_535, READ, 0x3FFF_F123, 1, 0), lower, (255, 15, 0x3FFF_F123));
     for levels in [1, 2] {
         t.set_entry(255, FIRST, [0x80_0000, levels, 1, 1]);
-        t.would_freeze(dma(65_535, READ, 0, 1, 0), refuse(15, 0), (255, 15, 0));
+        t.would_freeze(dma(65_535, READ, 0, 1, 0), refuse_at(0x80_0000, 15, 0), (255, 15, 0));
     }
     // A table of 8 KiB at the end of a memory that lacks its last word.
     t.resize(256, INTERRUPTS, 65_536, 1_048_575);
     t.set_entry(255, FIRST, [0x7F_E000, 1, 2, 1]);
     t.memory[1_048_574] = 0x1003;
     t.keeps(dma(65_535, WRITE, 0x3F_E004, 4, 0), pass(0x1004, 255, 1));
-    t.would_freeze(dma(65_535, WRITE, 0x3F_F004, 4, 0), refuse(15, 0), (255, 15, 0x3F_F004));
+    let last = refuse_at(0x7F_FFF8, 15, 0);
+    t.would_freeze(dma(65_535, WRITE, 0x3F_F004, 4, 0), last, (255, 15, 0x3F_F004));
 }
 
 #[test]
@@ -453,15 +461,15 @@ fn full_size_peers() {
     // A refusal stops none of them. The second record has a table past memory, or none.
     t.set_entry(255, SECOND, [0x80_0000, 1, 1, 1]);
     let refused = [
-        (0x2000_0000_0000_0000, 5, 0),
-        (0x20_0000, 7, 0),
-        (0x1000, 8, 1),
-        (NARROW, 9, 0),
-        (1 << 59, 15, 0),
+        (0x2000_0000_0000_0000, refuse(5, 0)),
+        (0x20_0000, refuse(7, 0)),
+        (0x1000, refuse_at(0x7F_F008, 8, 1)),
+        (NARROW, refuse(9, 0)),
+        (1 << 59, refuse_at(0x80_0000, 15, 0)),
     ];
-    for (address, reason, words) in refused {
+    for (address, answer) in refused {
         let request = dma(65_535, READ, address, 4, 0);
-        t.would_freeze(request, refuse(reason, words), (255, reason, address));
+        t.would_freeze(request, answer, (255, answer[AT_REASON], address));
     }
     t.set_entry(255, SECOND, [0; 4]);
     t.would_freeze(dma(65_535, READ, 1 << 59, 4, 0), refuse(6, 0), (255, 6, 1 << 59));
@@ -471,8 +479,8 @@ fn full_size_peers() {
     // PE 0 has PE 255 as its peer, and both have records.
     t.peers[3] = 1 << 63;
     t.state[0] = 0xFFFF_FFFF_FFFF_FFFC;
-    t.state[765] = 4;
-    t.check(error(7), done(), &[State(0, u64::MAX), State(765, 7)]);
+    t.state[1_020] = 4;
+    t.check(error(7), done(), &[State(0, u64::MAX), State(1_020, 7)]);
     // With 255 PEs the bit of PE 255 is ignored.
     let mut t = largest();
     t.resize(255, INTERRUPTS, 65_536, 1_048_576);
@@ -519,7 +527,7 @@ fn peers_run_on_after_a_refusal() {
     t.keeps(dma(5, READ, 0x20_0000, 4, 0), refuse(4, 0));
     serves(&t, served);
     // The message is obeyed although PE 2 is stopped; its record stays.
-    t.check(error(5), done(), &[State(9, 3), State(10, 13), State(11, 2)]);
+    t.check(error(5), done(), &[State(12, 3), State(13, 13), State(14, 2)]);
     serves(&t, [refuse(4, 0), ones(0xFFFF_FFFF), dropped()]);
 }
 
@@ -586,14 +594,14 @@ fn full_size_loads_and_stores() {
     t.keeps(load(u64::MAX, 2), refuse(2, 0));
     t.keeps(load(u64::MAX - 15, 16), refuse(2, 0));
     // PE 255 is MMIO stopped.
-    t.state[765] = 1;
+    t.state[1_020] = 1;
     for (width, value) in [(1, 0xFF), (2, 0xFFFF), (4, 0xFFFF_FFFF), (8, u64::MAX)] {
         t.keeps(load(0xFF00_0000, width), ones(value));
         t.keeps(store(0xFFFF_FC00_0000_0000, width), dropped());
     }
     t.keeps(load(LAST_M64, 8), pass(LAST_M64, 0, 0));
     // A window of one PE: 255 is the last, 256 is none.
-    t.state[765] = 0;
+    t.state[1_020] = 0;
     t.set_m64(14, [LAST_M64, 1 << 28, 1, 255]);
     t.keeps(load(LAST_M64, 8), pass(LAST_M64, 255, 0));
     t.set_m64(14, [LAST_M64, 1 << 28, 1, 256]);
@@ -603,12 +611,10 @@ fn full_size_loads_and_stores() {
 #[test]
 fn full_size_firmware() {
     let mut t = largest();
-    t.state[765] = u64::MAX;
-    t.state[766] = 15;
-    t.state[767] = u64::MAX;
-    t.check(clear(255, MMIO_BIT), done(), &[State(765, u64::MAX - 1)]);
-    t.check(clear(255, DMA_BIT), done(), &[State(765, u64::MAX - 3)]);
-    t.check(clear(255, RECORD), done(), &[State(766, 0), State(767, 0)]);
+    t.state[1_020..].copy_from_slice(&[u64::MAX, 15, u64::MAX, u64::MAX]);
+    t.check(clear(255, MMIO_BIT), done(), &[State(1_020, u64::MAX - 1)]);
+    t.check(clear(255, DMA_BIT), done(), &[State(1_020, u64::MAX - 3)]);
+    t.check(clear(255, RECORD), done(), &[State(1_021, 0), State(1_022, 0), State(1_023, 0)]);
     for pe in [256, 0x1_00FF, u64::MAX] {
         for part in [MMIO_BIT, DMA_BIT, RECORD] {
             t.keeps(clear(pe, part), refuse(14, 0));
@@ -681,8 +687,9 @@ fn lengths_one_off() {
     change("windows one long", |t| t.windows.push(0));
     change("segments one short", |t| t.segments.truncate(255));
     change("segments one long", |t| t.segments.push(0));
-    change("state one short", |t| t.state.truncate(767));
+    change("state one short", |t| t.state.truncate(1_023));
     change("state one long", |t| t.state.push(0));
+    change("state of three words to each PE", |t| t.state.truncate(768));
     change("all empty", |t| {
         t.resize(0, 0, 0, 0);
         t.windows.clear();
@@ -697,7 +704,7 @@ fn smallest() {
     t.set_entry(0, FIRST, [0, 1, 1, 1]);
     t.set_entry(0, SECOND, [0, 1, 1, 0]);
     t.keeps(dma(0, READ, 0x0800_0000_0000_0000, 1, 0), pass(0, 0, 0));
-    t.would_freeze(dma(0, READ, 0, 1, 0), refuse(15, 0), (0, 15, 0));
+    t.would_freeze(dma(0, READ, 0, 1, 0), refuse_at(0, 15, 0), (0, 15, 0));
     t.would_freeze(dma(0, WRITE, 0xFFFF_0000, 4, 0), refuse(9, 0), (0, 9, 0xFFFF_0000));
     t.keeps(dma(1, READ, 0, 1, 0), refuse(3, 0));
     t.keeps(end(0), refuse(14, 0));
@@ -801,8 +808,8 @@ fn msi_numbers() {
     }
     // Just outside the 32-bit window, where the table has no valid word or ends.
     t.set_entry(2, FIRST, [0x2000, 1, 1, 17]);
-    for address in [0xFFFE_FFFC, 0x1_0000_0000] {
-        t.would_freeze(dma(5, WRITE, address, 4, 7), refuse(8, 1), (2, 8, address));
+    for (address, word) in [(0xFFFE_FFFC, 0x2078), (0x1_0000_0000, 0x2080)] {
+        t.would_freeze(dma(5, WRITE, address, 4, 7), refuse_at(word, 8, 1), (2, 8, address));
     }
 }
 
@@ -889,6 +896,226 @@ fn m64_limits() {
     }
 }
 
+// ---- The word that a walk stops at ----
+
+/// PE 2's first record has three levels. Index 1 leads on at each of them, from 0x2008 to 0x3008 to
+/// 0x4008, and there to page 0x9000; every other word of these tables is 0.
+fn of_three_levels() -> Tables {
+    let mut t = of_the_cases();
+    t.set_entry(2, FIRST, [0x2000, 3, 1, 1]);
+    t.set_word(0x2008, 0x3001);
+    t.set_word(0x3008, 0x4002);
+    t.set_word(0x4008, 0x9003);
+    t
+}
+
+/// An address by its index at each level, the first level first.
+fn by_index(first: u64, middle: u64, last: u64) -> u64 {
+    first << 30 | middle << 21 | last << 12
+}
+
+/// This read stops at this word; it is answered and recorded.
+#[track_caller]
+fn stops_at(t: &Tables, address: u64, word: u64, reason: u64, words: u64) {
+    let request = dma(5, READ, address, 4, 0);
+    t.would_freeze(request, refuse_at(word, reason, words), (2, reason, address));
+}
+
+#[test]
+fn word_that_is_not_valid() {
+    let mut t = of_three_levels();
+    t.keeps(dma(5, READ, by_index(1, 1, 1), 4, 0), pass(0x9000, 2, 3));
+    // The bits above the lowest two do not make a word valid.
+    for word in [0, 0x3FFC, 0xFFFF_FFFF_FFFF_FFFC] {
+        t.set_word(0x2010, word);
+        t.set_word(0x3018, word);
+        t.set_word(0x4020, word);
+        stops_at(&t, by_index(2, 1, 1), 0x2010, 8, 1);
+        stops_at(&t, by_index(1, 3, 1), 0x3018, 8, 2);
+        stops_at(&t, by_index(1, 1, 4), 0x4020, 8, 3);
+    }
+    stops_at(&t, by_index(511, 1, 1), 0x2FF8, 8, 1);
+    stops_at(&t, by_index(1, 511, 1), 0x3FF8, 8, 2);
+    stops_at(&t, by_index(1, 1, 511), 0x4FF8, 8, 3);
+}
+
+#[test]
+fn word_of_the_other_direction() {
+    let mut t = of_three_levels();
+    for (word, good, bad) in [(0x9001, READ, WRITE), (0x9002, WRITE, READ)] {
+        t.set_word(0x4020, word);
+        let address = by_index(1, 1, 4);
+        t.keeps(dma(5, good, address, 4, 0), pass(0x9000, 2, 3));
+        let answer = refuse_at(0x4020, 8, 3);
+        t.would_freeze(dma(5, bad, address, 4, 0), answer, (2, 8, address));
+    }
+}
+
+#[test]
+fn word_that_leads_to_a_misaligned_table() {
+    // Tables of 8 KiB: the index has 10 bits. The upper word is named, not the table.
+    let mut t = of_the_cases();
+    t.set_entry(2, FIRST, [0x2000, 3, 2, 1]);
+    t.set_word(0x2008, 0x4001);
+    t.set_word(0x2010, 0x5003);
+    t.set_word(0x4008, 0x6002);
+    t.set_word(0x4018, 0x7001);
+    t.set_word(0x6008, 0x9003);
+    t.keeps(dma(5, READ, 0x1_0040_1000, 4, 0), pass(0x9000, 2, 3));
+    stops_at(&t, 0x2_0040_1000, 0x2010, 8, 1);
+    stops_at(&t, 0x1_00C0_1000, 0x4018, 8, 2);
+    // Outside memory and misaligned: the upper word again, and no word is missing.
+    t.set_word(0x2010, 0xFFFF_FFFF_FFFF_F001);
+    stops_at(&t, 0x2_0040_1000, 0x2010, 8, 1);
+}
+
+#[test]
+fn word_that_is_not_there() {
+    // Memory ends at 0x8000. A table there, and the last one below 2^64.
+    for (table, last) in [(0x8000, 0x8FF8), (0xFFFF_FFFF_FFFF_F000, 0xFFFF_FFFF_FFFF_FFF8)] {
+        let mut t = of_three_levels();
+        t.set_word(0x3008, table | 2);
+        stops_at(&t, by_index(1, 1, 0), table, 15, 2);
+        stops_at(&t, by_index(1, 1, 511), last, 15, 2);
+        t.set_word(0x2008, table | 1);
+        stops_at(&t, by_index(1, 0, 1), table, 15, 1);
+        stops_at(&t, by_index(1, 511, 1), last, 15, 1);
+        for levels in [1, 2, 3] {
+            t.set_entry(2, FIRST, [table, levels, 1, 1]);
+            stops_at(&t, 0, table, 15, 0);
+            stops_at(&t, (1 << (12 + 9 * levels)) - 0x1000, last, 15, 0);
+        }
+    }
+}
+
+#[test]
+fn word_at_address_0() {
+    // The number is 0, as where there is none.
+    let mut t = Tables::new(4, 0, 8, 0x400);
+    t.requesters[5] = 2;
+    for levels in [1, 2, 3] {
+        t.set_entry(2, FIRST, [0, levels, 1, 1]);
+        stops_at(&t, 0xABC, 0, 8, 1);
+    }
+    // The first table is at 0x1000, the lower one at 0.
+    t.set_entry(2, FIRST, [0x1000, 2, 1, 1]);
+    t.set_word(0x1000, 1);
+    stops_at(&t, 0xABC, 0, 8, 2);
+    t.set_entry(2, FIRST, [0, 2, 1, 1]);
+    t.resize(4, 0, 8, 0);
+    stops_at(&t, 0xABC, 0, 15, 0);
+}
+
+/// The rows of `docs/HOST.md`, 'Which table word failed'.
+#[test]
+fn word_by_the_count() {
+    let mut t = of_the_cases();
+    t.set_entry(2, FIRST, [0x2000, 2, 1, 1]);
+    let rows = [
+        (0x5001, 0x9003, WRITE, pass(0x9010, 2, 2)),
+        (0x5000, 0x9003, READ, refuse_at(0x2010, 8, 1)),
+        (0x5003, 0x9001, WRITE, refuse_at(0x5018, 8, 2)),
+        (0x1000_0001, 0x9003, READ, refuse_at(0x1000_0018, 15, 1)),
+    ];
+    for (upper, last, direction, answer) in rows {
+        t.set_word(0x2010, upper);
+        t.set_word(0x5018, last);
+        let request = dma(5, direction, 0x40_3010, 4, 0);
+        match answer[AT_NAME] {
+            PASS => t.keeps(request, answer),
+            _ => t.would_freeze(request, answer, (2, answer[AT_REASON], 0x40_3010)),
+        }
+    }
+    t.set_entry(2, FIRST, [0x2000, 2, 2, 1]);
+    t.set_word(0x2008, 0x5003);
+    stops_at(&t, 0x40_3010, 0x2008, 8, 1);
+}
+
+/// Each reason that freezes but 12, by a read of PE 2: the address and the answer.
+fn that_freeze() -> [(u64, AnswerWords); 7] {
+    [
+        (0x2000_0000_0000_0000, refuse(5, 0)),
+        (0x0800_0000_0000_0000, refuse(6, 0)),
+        (1 << 39, refuse(7, 0)),
+        (by_index(2, 1, 1), refuse_at(0x2010, 8, 1)),
+        (by_index(1, 1, 2), refuse_at(0x4010, 8, 3)),
+        (0xFFFF_0070, refuse(9, 0)),
+        (by_index(3, 0, 2), refuse_at(0x8000, 15, 1)),
+    ]
+}
+
+/// The tables of `of_three_levels`, where index 3 leads out of memory. PE 3 is the peer of PE 2, and
+/// both have these words.
+fn with_state(words: [u64; 4]) -> Tables {
+    let mut t = of_three_levels();
+    t.set_word(0x2018, 0x8001);
+    t.peers[8] = 1 << 3;
+    t.state[8..12].copy_from_slice(&words);
+    t.state[12..].copy_from_slice(&words);
+    t
+}
+
+#[test]
+fn words_left_over_in_an_empty_record() {
+    let before = with_state([4, 0, 0x77, 0x88]);
+    for (address, answer) in that_freeze() {
+        let changes = [
+            State(8, 7),
+            State(9, answer[AT_REASON]),
+            State(10, address),
+            State(11, answer[AT_WORD]),
+        ];
+        before.clone().check(dma(5, READ, address, 4, 0), answer, &changes);
+    }
+    let of_message = [State(8, 7), State(9, 12), State(10, 5), State(11, 0)];
+    let of_peer = [State(12, 7), State(13, 13), State(14, 2), State(15, 0)];
+    before.clone().check(error(5), done(), &[of_message, of_peer].concat());
+}
+
+#[test]
+fn record_that_is_there_stays() {
+    for record in [[8, 0x1F_FFFF, 0x2FF8], [7, 0x20_0000, 0], [99, 0, u64::MAX]] {
+        let before = with_state([4, record[0], record[1], record[2]]);
+        for (address, answer) in that_freeze() {
+            before.clone().check(dma(5, READ, address, 4, 0), answer, &[State(8, 7)]);
+        }
+        before.clone().check(error(5), done(), &[State(8, 7), State(12, 7)]);
+    }
+}
+
+#[test]
+fn record_is_cleared_with_its_word() {
+    for (reason, value, word) in [(8, 0x1F_FFFF, 0x2FF8), (0, 0x77, 0x88), (0, 0, 0x88)] {
+        let mut t = with_state([7, reason, value, word]);
+        t.check(clear(2, MMIO_BIT), done(), &[State(8, 6)]);
+        t.check(clear(2, DMA_BIT), done(), &[State(8, 4)]);
+        t.check(clear(2, RECORD), done(), &[State(9, 0), State(10, 0), State(11, 0)]);
+        // The bits of PE 3 stay set, and its record alone is cleared.
+        t.check(clear(3, RECORD), done(), &[State(13, 0), State(14, 0), State(15, 0)]);
+    }
+}
+
+#[test]
+fn word_in_a_list() {
+    // The record is of the first refusal after each clear of it; later answers have no word.
+    let mut t = with_state([0; 4]);
+    let served = [
+        (dma(5, READ, by_index(2, 1, 1), 4, 0), refuse_at(0x2010, 8, 1)),
+        (dma(5, READ, by_index(1, 1, 1), 4, 0), refuse(4, 0)),
+        (clear(2, DMA_BIT), done()),
+        (dma(5, READ, by_index(1, 1, 1), 4, 0), pass(0x9000, 2, 3)),
+        (dma(5, READ, by_index(3, 0, 2), 4, 0), refuse_at(0x8000, 15, 1)),
+        (clear(2, RECORD), done()),
+        (clear(2, DMA_BIT), done()),
+        (dma(5, READ, by_index(1, 1, 2), 4, 0), refuse_at(0x4010, 8, 3)),
+        (clear(2, DMA_BIT), done()),
+        (dma(5, READ, 1 << 39, 4, 0), refuse(7, 0)),
+        (dma(8, READ, 0, 4, 0), refuse(3, 0)),
+    ];
+    let (requests, answers): (Vec<RequestWords>, Vec<AnswerWords>) = served.into_iter().unzip();
+    t.check_list(&requests, &answers, &frozen(2, 8, by_index(1, 1, 2), 0x4010));
+}
+
 // ---- The geometries that Linux programs ----
 
 #[test]
@@ -910,9 +1137,10 @@ fn linux_two_levels_of_64_kib() {
     // The last page of the 2 GiB window, and of all.
     t.keeps(dma(5, WRITE, 0x7FFF_FFFF, 1, 0), pass(0x000F_FFFF_FFFF_FFFF, 2, 2));
     t.keeps(dma(5, READ, 0x3FF_FFFF_FFFF, 1, 0), pass(0x000F_FFFF_FFFF_FFFF, 2, 2));
-    t.would_freeze(dma(5, WRITE, 0, 1, 0), refuse(8, 2), (2, 8, 0));
-    t.would_freeze(dma(5, READ, 0x8000_0000, 1, 0), refuse(8, 1), (2, 8, 0x8000_0000));
-    t.would_freeze(dma(5, READ, 0xA000_0000, 1, 0), refuse(8, 1), (2, 8, 0xA000_0000));
+    t.would_freeze(dma(5, WRITE, 0, 1, 0), refuse_at(0x2_0000, 8, 2), (2, 8, 0));
+    for (address, word) in [(0x8000_0000, 0x1_0020), (0xA000_0000, 0x1_0028)] {
+        t.would_freeze(dma(5, READ, address, 1, 0), refuse_at(word, 8, 1), (2, 8, address));
+    }
     t.would_freeze(dma(5, READ, 0x400_0000_0000, 1, 0), refuse(7, 0), (2, 7, 0x400_0000_0000));
 }
 
@@ -933,18 +1161,20 @@ fn linux_4_kib_pages() {
         t.set_word(2 * table - 8, 0x7_6543_2001);
         t.keeps(dma(5, WRITE, 0x678, 8, 0), pass(0x1_2345_6678, 2, 1));
         t.keeps(dma(5, READ, one - 1, 1, 0), pass(0x7_6543_2FFF, 2, 1));
-        t.would_freeze(dma(5, WRITE, one - 1, 1, 0), refuse(8, 1), (2, 8, one - 1));
-        t.would_freeze(dma(5, READ, 0x1000, 1, 0), refuse(8, 1), (2, 8, 0x1000));
+        let last = refuse_at(2 * base - 8, 8, 1);
+        t.would_freeze(dma(5, WRITE, one - 1, 1, 0), last, (2, 8, one - 1));
+        t.would_freeze(dma(5, READ, 0x1000, 1, 0), refuse_at(base + 8, 8, 1), (2, 8, 0x1000));
         t.would_freeze(dma(5, READ, one, 1, 0), refuse(7, 0), (2, 7, one));
         // The same table below an upper one, from its last word.
         t.set_entry(2, FIRST, [0, 2, code, 1]);
         t.set_word(table - 8, base | 2);
         t.keeps(dma(5, READ, two - 1, 1, 0), pass(0x7_6543_2FFF, 2, 2));
         t.keeps(dma(5, WRITE, two - one, 4_096, 0), pass(0x1_2345_6000, 2, 2));
-        t.would_freeze(dma(5, READ, 0, 1, 0), refuse(8, 1), (2, 8, 0));
+        t.would_freeze(dma(5, READ, 0, 1, 0), refuse_at(0, 8, 1), (2, 8, 0));
         t.would_freeze(dma(5, READ, two, 1, 0), refuse(7, 0), (2, 7, two));
         t.set_word(table - 8, (base + 0x1000) | 2);
-        t.would_freeze(dma(5, READ, two - 1, 1, 0), refuse(8, 1), (2, 8, two - 1));
+        let upper = refuse_at(base - 8, 8, 1);
+        t.would_freeze(dma(5, READ, two - 1, 1, 0), upper, (2, 8, two - 1));
         // A base that is no multiple of the table's bytes.
         t.set_entry(2, FIRST, [0x2000, 1, code, 1]);
         t.would_freeze(dma(5, READ, 0, 1, 0), refuse(6, 0), (2, 6, 0));
@@ -964,7 +1194,8 @@ fn linux_one_level_of_256_mib() {
     t.keeps(dma(5, WRITE, 0x1_2345_6789, 4, 0), pass(0x2345_6789, 2, 1));
     t.keeps(dma(5, READ, 0x1_FFFF_0000, 4, 0), pass(0xFFFF_0000, 2, 1));
     t.keeps(dma(5, WRITE, 0x1F_FFFF_FFFF, 1, 0), pass(0x1E_FFFF_FFFF, 2, 1));
-    t.would_freeze(dma(5, READ, 0xFFFE_FFFF, 1, 0), refuse(8, 1), (2, 8, 0xFFFE_FFFF));
+    let last = refuse_at(0x1078, 8, 1);
+    t.would_freeze(dma(5, READ, 0xFFFE_FFFF, 1, 0), last, (2, 8, 0xFFFE_FFFF));
     t.would_freeze(dma(5, READ, 0x20_0000_0000, 1, 0), refuse(7, 0), (2, 7, 0x20_0000_0000));
     // The 32-bit MSI window is no page of the table.
     t.set_word(0x1078, 0xF000_0003);
@@ -1055,12 +1286,12 @@ fn list_each_after_the_last() {
     let (requests, answers): (Vec<RequestWords>, Vec<AnswerWords>) = served.into_iter().unzip();
     // PE 2 has the DMA bit and the last refusal's record, PE 3 the MMIO bit and its first record.
     let changes = [
-        State(6, 2),
-        State(7, 7),
-        State(8, 0x20_0000),
-        State(9, 1),
-        State(10, 13),
-        State(11, 2),
+        State(8, 2),
+        State(9, 7),
+        State(10, 0x20_0000),
+        State(12, 1),
+        State(13, 13),
+        State(14, 2),
         Interrupt(30, 255),
         Interrupt(31, 2),
     ];
@@ -1093,7 +1324,7 @@ fn list_lengths() {
             same("answers", &answers, &written);
             let mut after = before.clone();
             for pe in 0..whole {
-                after.state[3 * pe..3 * pe + 3].copy_from_slice(&[3, 12, pe as u64]);
+                after.state[4 * pe..4 * pe + 4].copy_from_slice(&[3, 12, pe as u64, 0]);
             }
             t.check_same(&after);
         }
@@ -1153,14 +1384,15 @@ fn words_outside_the_slices() {
         &mut interrupts[8..40],
         &t.windows,
         &t.segments,
-        &mut state[8..20],
+        &mut state[8..24],
         &requests,
         &mut answers[8..32],
     );
     assert_eq!(count, 3);
     let guard = [UNWRITTEN; 8];
     same("answers", &answers, &[guard, msi(7, 0x42, 5), refuse(2, 0), done(), guard].concat());
-    let frozen = [3, 13, 2, 3, 13, 2, 3, 12, 5, 3, 13, 2];
+    let peer = [3, 13, 2, 0];
+    let frozen = [peer, peer, [3, 12, 5, 0], peer].concat();
     same("state", &state, &[&guard, &frozen[..], &guard].concat());
     t.interrupts[31] = 2;
     same("interrupts", &interrupts, &[&guard, &t.interrupts[..], &guard].concat());
@@ -1195,7 +1427,7 @@ fn words_that_name_no_request() {
     let mut t = of_the_cases();
     t.set_word(0x2018, 0x1234_5003);
     t.set_interrupt(7, [2, 0x42, 5, 0]);
-    t.state[6] = 4;
+    t.state[8] = 4;
     t.check_list(&unnamed(), &[refuse(2, 0); 14], &[]);
     for request in unnamed() {
         t.keeps(request, refuse(2, 0));
@@ -1208,7 +1440,7 @@ fn words_that_name_no_request() {
     t.check_list(
         &[error(5), dma(5, 2, 0x3ABC, 4, 0), clear(2, DMA_BIT), clear(2, 3), [7; 8]],
         &[done(), refuse(2, 0), done(), refuse(2, 0), refuse(2, 0)],
-        &[State(6, 5), State(7, 12), State(8, 5)],
+        &[State(8, 5), State(9, 12), State(10, 5)],
     );
 }
 

@@ -48,15 +48,24 @@ impl Asked {
     }
 }
 
-/// How often each answer and each reason came, and how often a peer was served after a refusal had
-/// frozen a PE that lists it.
+/// How often each answer and each reason came, how often a peer was served after a refusal had
+/// frozen a PE that lists it, how often a walk stopped at a word of each kind, and how often a
+/// freeze wrote over a word left over in an empty record.
 #[derive(Default)]
 struct Counts {
     requests: u64,
     names: [u64; 7],
     reasons: [u64; 16],
     peers: u64,
+    stopped_at: [u64; 4],
+    left_over: u64,
 }
+
+// The kinds of words that a walk stops at, by their places in `stopped_at`.
+const UPPER_INVALID: usize = 0;
+const UPPER_MISALIGNED: usize = 1;
+const LAST: usize = 2;
+const MISSING: usize = 3;
 
 impl Counts {
     fn add(&mut self, answer: &AnswerWords) {
@@ -68,7 +77,8 @@ impl Counts {
     /// The least of these counts; 12 and 13 are in records only.
     fn least(&self) -> u64 {
         let refused = (1..=11).chain(14..=15).map(|reason| self.reasons[reason]);
-        self.names.iter().copied().chain(refused).chain([self.peers]).min().unwrap_or(0)
+        let others = self.stopped_at.into_iter().chain([self.peers, self.left_over]);
+        self.names.iter().copied().chain(refused).chain(others).min().unwrap_or(0)
     }
 }
 
@@ -84,6 +94,7 @@ struct Pair {
 impl Pair {
     /// Both answer one request.
     fn ask(&mut self, asked: &Asked, counts: &mut Counts) -> Result<AnswerWords, String> {
+        let before = left_over(&self.plain);
         let wanted = answer_words(self.plain.handle(asked.request));
         let mut answers = [UNWRITTEN; ANSWER_WORDS + 1];
         let count = run_proved(&mut self.proved, &asked.words, &mut answers);
@@ -107,13 +118,19 @@ impl Pair {
         self.same().map_err(told)?;
         counts.add(&wanted);
         counts.peers += self.peer_served(asked.request, &wanted);
+        if let Some(kind) = stopped_at(&self.plain, asked.request, &wanted) {
+            counts.stopped_at[kind] += 1;
+        }
+        if !matches!(asked.request, Request::Clear { .. }) {
+            counts.left_over += before - left_over(&self.plain);
+        }
         Ok(wanted)
     }
 
     /// 1 where this answer is the first pass of a spared peer.
     fn peer_served(&mut self, request: Request, answer: &AnswerWords) -> u64 {
         let (t, spared) = (&self.plain, &mut self.spared);
-        let runs = |pe: u64| word(&t.state, 3, pe, 0) & 3 == 0;
+        let runs = |pe: u64| word(&t.state, 4, pe, 0) & 3 == 0;
         spared.retain(|&pe| runs(pe));
         match (request, answer[0], answer[1]) {
             (Request::Dma { requester, .. }, REFUSE, 5..=9 | 15) => {
@@ -174,6 +191,27 @@ impl Pair {
         same("state", &a.state, &b.state)?;
         Err("another size".to_string())
     }
+}
+
+/// The kind of the word that an answer names, if it names one that is not at address 0.
+fn stopped_at(tables: &Bridge, request: Request, answer: &AnswerWords) -> Option<usize> {
+    let (Request::Dma { requester, address, .. }, 1..) = (request, answer[AT_WORD]) else {
+        return None;
+    };
+    let pe = u64::from(tables.requesters[requester as usize]);
+    let levels = word(&tables.translation, 8, pe, 4 * (address >> 59) + 1);
+    let failed = word(&tables.memory, 1, answer[AT_WORD] / 8, 0);
+    Some(match answer[AT_REASON] {
+        REASON_OUTSIDE_MEMORY => MISSING,
+        _ if answer[AT_WORDS] == levels => LAST,
+        _ if failed & 3 == 0 => UPPER_INVALID,
+        _ => UPPER_MISALIGNED,
+    })
+}
+
+/// The PEs with a word left over in an empty error record.
+fn left_over(tables: &Bridge) -> u64 {
+    tables.state.chunks_exact(4).filter(|words| words[1] == 0 && words[3] != 0).count() as u64
 }
 
 fn same<T: PartialEq + LowerHex>(name: &str, proved: &[T], plain: &[T]) -> Result<(), String> {
@@ -297,10 +335,11 @@ impl Generator {
         for pe in &mut t.segments {
             *pe = random.mostly_below(n) as u16;
         }
-        for record in t.state.chunks_mut(3) {
-            record[0] = random.next() & !3;
-            if random.percent(10) {
-                record.copy_from_slice(&[random.any(), random.any(), random.any()]);
+        for words in t.state.chunks_mut(4) {
+            words[0] = random.next() & !3;
+            if random.percent(20) {
+                words.fill_with(|| random.any());
+                words[1] = random.pick(&[0, words[1], words[1] % 16]);
             }
         }
     }
@@ -383,7 +422,7 @@ impl Generator {
     /// A PE whose stop bit is set is mostly released first.
     fn release(&mut self, pe: u64, part: Part) -> Option<Asked> {
         let bit = if part == Part::Dma { 2 } else { 1 };
-        if word(&self.pair.plain.state, 3, pe, 0) & bit != 0 && self.random.percent(80) {
+        if word(&self.pair.plain.state, 4, pe, 0) & bit != 0 && self.random.percent(80) {
             return Some(Asked::of(Request::Clear { pe, part }));
         }
         None
@@ -668,9 +707,20 @@ fn compare(generate: &str, seeds: u64, lines: u64) -> Result<(), String> {
     for (name, counts) in [("replay text", text), ("tables beyond it", tables)] {
         let least = counts.least();
         println!(
-            "{}: {} inputs, {} requests, no difference; every answer and reason {} times or more, \
-             {} of a peer after a refusal",
-            name, seeds, counts.requests, least, counts.peers
+            "{}: {} inputs, {} requests, no difference; {} times or more: every answer and reason, a \
+             peer served after a refusal ({}), a walk that stops at an upper word that is not valid \
+             ({}) or leads to a misaligned table ({}), at a last word ({}), at a missing word ({}), a \
+             word left over in an empty record ({})",
+            name,
+            seeds,
+            counts.requests,
+            least,
+            counts.peers,
+            counts.stopped_at[UPPER_INVALID],
+            counts.stopped_at[UPPER_MISALIGNED],
+            counts.stopped_at[LAST],
+            counts.stopped_at[MISSING],
+            counts.left_over
         );
         if least < 100 {
             return Err(format!("{}: one of these came {} times, not 100", name, least));

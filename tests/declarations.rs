@@ -242,7 +242,7 @@ fn defined(run: &Function) -> Numbers {
         all.insert("NOBODY".to_string(), number);
     }
     // what a table holds, and not what an entry or an address may be
-    let inner = ["MOST_TABLE_CODE", "CODE_BITS", "MOST_LEVELS", "OFFSET_BITS"];
+    let inner = ["MOST_TABLE_CODE", "CODE_BITS", "MOST_LEVELS", "OFFSET_BITS", "WORD_BYTES"];
     let limits = constants(&read("crates/profile/src/limits.rt"));
     all.extend(limits.into_iter().filter(|(name, _)| !inner.contains(&name.as_str())));
     all

@@ -6,7 +6,7 @@
 
 use std::collections::HashMap;
 use std::fs;
-use std::path::Path;
+use std::path::PathBuf;
 use std::rc::Rc;
 
 #[derive(Clone, Debug, PartialEq)]
@@ -205,7 +205,7 @@ impl Reader {
     }
 
     fn product(&mut self) -> Term {
-        self.operations(&["*", "/"], false, Reader::power)
+        self.operations(&["*", "/", "%"], false, Reader::power)
     }
 
     fn power(&mut self) -> Term {
@@ -253,7 +253,9 @@ impl Reader {
                 assert!(self.skip('{'), "a record is not opened");
                 Some(Term::Record(self.fields()))
             }
-            Token::Name(name) if !["∷", "++", "+", "-", "*", "/", "^", "="].contains(&&*name) => {
+            Token::Name(name)
+                if !["∷", "++", "+", "-", "*", "/", "%", "^", "="].contains(&&*name) =>
+            {
                 self.place += 1;
                 Some(Term::Name(name))
             }
@@ -353,21 +355,24 @@ impl Module {
 // ---- Computing ----
 
 impl Modules {
-    /// The modules of these names and those that they import from, where the folder has them; of
-    /// one that is neither a root nor wanted, its numbers alone.
-    pub fn read(folder: &Path, roots: &[&str], wanted: fn(&str) -> bool) -> Modules {
-        let file = |name: &str| folder.join(format!("{name}.antt"));
+    /// The modules of these names and those that they import from, where a folder has them, the
+    /// first of the folders first; of one that is neither a root nor wanted, its numbers alone.
+    pub fn read(folders: &[PathBuf], roots: &[&str], wanted: fn(&str) -> bool) -> Modules {
+        let file = |name: &str| {
+            let mut files = folders.iter().map(|folder| folder.join(format!("{name}.antt")));
+            files.find(|file| file.exists())
+        };
         let mut modules = Modules(HashMap::new());
         let mut open: Vec<String> = roots.iter().map(|name| name.to_string()).collect();
         while let Some(name) = open.pop() {
             if modules.0.contains_key(&name) {
                 continue;
             }
-            let path = file(&name);
+            let path = file(&name).unwrap_or_else(|| panic!("no module {name}"));
             let text = fs::read_to_string(&path)
                 .unwrap_or_else(|error| panic!("{}: {error}", path.display()));
             let module = Module::read(&text, roots.contains(&&*name) || wanted(&name));
-            open.extend(module.imports.values().filter(|name| file(name).exists()).cloned());
+            open.extend(module.imports.values().filter(|name| file(name).is_some()).cloned());
             modules.0.insert(name, module);
         }
         modules
@@ -540,6 +545,7 @@ fn operation(name: &str, left: Value, right: Value) -> Value {
                 "-" => Some(a.saturating_sub(b)),
                 "*" => a.checked_mul(b),
                 "/" => Some(a.checked_div(b).unwrap_or(0)),
+                "%" => Some(a.checked_rem(b).unwrap_or(a)),
                 _ => power(),
             };
             return Value::Number(result.expect("a number over 128 bits"));

@@ -267,7 +267,7 @@ impl Generator {
         self.m = m;
         self.r = r;
         self.words = words;
-        let lengths = [r, 8 * n, words, 4 * n, 4 * m, 67, 256, 3 * n];
+        let lengths = [r, 8 * n, words, 4 * n, 4 * m, 67, 256, 4 * n];
         self.tables = lengths.iter().map(|&length| vec![0; length as usize]).collect();
         self.known.clear();
         self.stopped = 0;
@@ -310,15 +310,12 @@ impl Generator {
             }
         }
         if self.random.percent(30) {
-            // Bits above the stop bits, and records that are not empty.
+            // Bits above the stop bits, and error records.
             for pe in 0..self.n {
                 let stop = self.random.next() & !3 | self.random.pick(&[0, 0, 0, 1, 2, 3]);
-                self.set(STATE, 3 * pe, stop);
+                self.set(STATE, 4 * pe, stop);
                 if self.random.percent(50) {
-                    let reason = self.random.pick(&[0, 0, 7, 13, 99, MAX]);
-                    self.set(STATE, 3 * pe + 1, reason);
-                    let value = self.random.any();
-                    self.set(STATE, 3 * pe + 2, value);
+                    self.build_error_record(pe);
                 }
             }
         }
@@ -610,6 +607,20 @@ impl Generator {
         }
     }
 
+    /// An error record of any reason, or words left over in an empty one.
+    fn build_error_record(&mut self, pe: u64) {
+        let reason = match self.random.below(8) {
+            0..=3 => 0,
+            4 => self.random.pick(&[99, MAX]),
+            _ => self.random.between(1, 15),
+        };
+        let value = self.random.any();
+        let word = self.random.pick(&[0, 8, 0x2FF8, MAX - 7, MAX]);
+        for (place, word) in (1..).zip([reason, value, word]) {
+            self.set(STATE, 4 * pe + place, word);
+        }
+    }
+
     /// A good interrupt, or one with a word off its limits.
     fn build_interrupt(&mut self, number: u64) {
         let off = if self.random.percent(12) { self.random.below(4) } else { 4 };
@@ -737,30 +748,32 @@ impl Generator {
     // ---- Requests ----
 
     fn step(&mut self) {
-        match self.random.weighted(&[300, 60, 40, 40, 30, 170, 190, 20, 70, 80, 40, 50, 50, 4, 1]) {
+        let weights = [300, 60, 40, 40, 40, 30, 170, 190, 20, 70, 80, 40, 50, 50, 4, 1];
+        match self.random.weighted(&weights) {
             0 => self.ask_dma(),
             1 => self.ask_dma_edge(),
-            2 => self.ask_class(),
-            3 => self.ask_length(),
-            4 => self.ask_requester(),
-            5 => self.ask_msi(),
-            6 => self.ask_window(),
-            7 => self.ask_error(),
-            8 => {
+            2 => self.ask_bad_word(),
+            3 => self.ask_class(),
+            4 => self.ask_length(),
+            5 => self.ask_requester(),
+            6 => self.ask_msi(),
+            7 => self.ask_window(),
+            8 => self.ask_error(),
+            9 => {
                 let line = self.end_line();
                 self.put_text(line)
             }
-            9 => {
+            10 => {
                 let line = self.priority_line();
                 self.put_text(line)
             }
-            10 => {
+            11 => {
                 let line = self.any_clear();
                 self.put_text(line)
             }
-            11 => self.change(),
-            12 => self.damaged(),
-            13 => {
+            12 => self.change(),
+            13 => self.damaged(),
+            14 => {
                 let line = self.size_off_limits();
                 self.put_text(line)
             }
@@ -895,6 +908,51 @@ impl Generator {
         };
         self.put_dma(known.pe, address);
         self.expect_freeze(known.pe);
+    }
+
+    /// A walk that stops at a chosen level: a word there, or before it, is made bad and then set
+    /// back.
+    fn ask_bad_word(&mut self) {
+        let known = match self.known_address() {
+            Some(known) if known.page_bits < known.window_bits => known,
+            _ => return,
+        };
+        let index = |level| {
+            known.address >> (known.page_bits + level * known.index_bits)
+                & ((1 << known.index_bits) - 1)
+        };
+        let levels = (known.window_bits - known.page_bits) / known.index_bits;
+        let table_bytes = 8 << known.index_bits;
+        let outside = (8 * self.words).next_multiple_of(table_bytes);
+        let base = 8 * known.pe + 4 * (known.address / SECOND);
+        if self.random.below(levels + 1) == levels {
+            return self.ask_with(known, TRANSLATION, base, outside);
+        }
+        let stop = self.random.below(levels);
+        let mut at = self.word(TRANSLATION, base) / 8 + index(levels - 1);
+        for level in (stop..levels - 1).rev() {
+            at = (self.word(MEMORY, at) >> 12 << 9) + index(level);
+        }
+        let old = self.word(MEMORY, at);
+        let word = match self.random.below(3) {
+            0 => old & !3,
+            _ if stop == 0 => old & !self.random.between(1, 2),
+            1 => outside | 3,
+            // Misaligned where a table is larger than 4 KiB.
+            _ => table_bytes / 2 | 3,
+        };
+        if at < self.words {
+            self.ask_with(known, MEMORY, at, word)
+        }
+    }
+
+    /// A DMA while a word of a table is another.
+    fn ask_with(&mut self, known: Known, table: usize, index: u64, word: u64) {
+        let old = self.word(table, index);
+        self.set(table, index, word);
+        self.put_dma(known.pe, known.address);
+        self.expect_freeze(known.pe);
+        self.set(table, index, old)
     }
 
     /// Classes that are not served.
@@ -1188,9 +1246,12 @@ impl Generator {
 
     fn release(&mut self, pe: u64) {
         self.stopped &= !(1 << pe);
+        if self.random.percent(5) {
+            self.build_error_record(pe);
+        }
         if self.random.percent(40) {
             let stop = self.random.pick(&[0, 0, 0, 0, 0, 1, 2, 4, MAX - 3]);
-            return self.set(STATE, 3 * pe, stop);
+            return self.set(STATE, 4 * pe, stop);
         }
         if self.random.percent(90) {
             let line = self.clear_line(pe, "dma");
@@ -1281,8 +1342,12 @@ impl Generator {
                 let pe = self.some_segment_pe();
                 self.set(SEGMENTS, segment, pe)
             }
+            _ if self.random.percent(50) => {
+                let pe = self.some_pe();
+                self.build_error_record(pe)
+            }
             _ => {
-                let at = self.random.below(3 * self.n);
+                let at = self.random.below(4 * self.n);
                 let word = self.random.pick(&[0, 1, 2, 3, 4, MAX]);
                 self.set(STATE, at, word)
             }

@@ -62,6 +62,7 @@ static const uint64_t requests[][CELLTIMBER_REQUEST_WORDS] = {
     {CELLTIMBER_DMA, 5, CELLTIMBER_READ, 0xFFFF0070, 4, 0, 0, 0},
     {CELLTIMBER_DMA, 0, CELLTIMBER_READ, 0, 1, 0, 0, 0},
     {CELLTIMBER_CLEAR, 3, CELLTIMBER_DMA_BIT, 0, 0, 0, 0, 0},
+    {CELLTIMBER_CLEAR, 3, CELLTIMBER_RECORD, 0, 0, 0, 0, 0},
     {CELLTIMBER_DMA, 3, CELLTIMBER_READ, 0, 1, 0, 0, 0},
     /* an error message freezes PE 1; its peer, PE 2, has a record already */
     {CELLTIMBER_ERROR, 6, 0, 0, 0, 0, 0, 0},
@@ -197,18 +198,26 @@ static size_t run(size_t first, size_t request_words, size_t answer_words)
 static void kinds(void)
 {
     static struct lent after;
+    const uint64_t *record = &lent.state[3 * CELLTIMBER_STATE_WORDS + 1];
     size_t k;
     start();
     for (k = 0; k < COUNT; k++) {
+        const uint64_t *answer = &lent.answers[CELLTIMBER_ANSWER_WORDS * k];
+        int walked;
         if (run(k, CELLTIMBER_REQUEST_WORDS, CELLTIMBER_ANSWER_WORDS) != 1)
             fail("one request was not served");
+        walked = answer[CELLTIMBER_AT_REASON] == CELLTIMBER_REASON_TABLE_WORD || answer[CELLTIMBER_AT_REASON] == CELLTIMBER_REASON_OUTSIDE_MEMORY;
+        if (walked != (answer[CELLTIMBER_AT_WORD] != 0))
+            fail("the word that a walk stopped at");
         print("request", requests[k], CELLTIMBER_REQUEST_WORDS);
-        print("answer", &lent.answers[CELLTIMBER_ANSWER_WORDS * k], CELLTIMBER_ANSWER_WORDS);
+        print("answer", answer, CELLTIMBER_ANSWER_WORDS);
         print("state", lent.state, LENGTH(lent.state));
         print("interrupts", lent.interrupts, LENGTH(lent.interrupts));
     }
     if (lent.state[0] != (CELLTIMBER_MMIO_STOP | CELLTIMBER_DMA_STOP) || lent.state[CELLTIMBER_STATE_WORDS] != CELLTIMBER_DMA_STOP)
         fail("the stop bits of PE 0, which is frozen, and of PE 1, whose MMIO bit is cleared");
+    if (record[0] != CELLTIMBER_REASON_OUTSIDE_MEMORY || record[1] != 0 || record[2] != 0x8000)
+        fail("the error record of PE 3, whose table is past memory");
     after = lent;
     start();
     if (run(0, LENGTH(lent.requests), LENGTH(lent.answers)) != COUNT || memcmp(&after, &lent, sizeof lent) != 0)

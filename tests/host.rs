@@ -63,6 +63,7 @@ fn requests() -> Vec<RequestWords> {
         dma(5, READ, 0xFFFF_0070, 4, 0),
         dma(0, READ, 0, 1, 0),
         clear(3, DMA_BIT),
+        clear(3, RECORD),
         dma(3, READ, 0, 1, 0),
         // an error message freezes PE 1; its peer, PE 2, has a record already
         error(6),
@@ -165,12 +166,16 @@ fn kinds() {
         let mut answer = [0; ANSWER_WORDS];
         assert_eq!(t.run(&request, &mut answer), 1);
         print("request", &request);
+        let walked = matches!(answer[AT_REASON], REASON_TABLE_WORD | REASON_OUTSIDE_MEMORY);
+        assert_eq!(answer[AT_WORD] != 0, walked);
         print("answer", &answer);
         print("state", &t.state);
         print("interrupts", &t.interrupts);
     }
     // PE 0 is frozen, and the MMIO bit of PE 1 is cleared.
     assert_eq!([t.state[0], t.state[STATE_WORDS]], [MMIO_STOP | DMA_STOP, DMA_STOP]);
+    // The last words are PE 3's error record: its table is past memory.
+    assert_eq!(t.state[3 * STATE_WORDS + 1..], [REASON_OUTSIDE_MEMORY, 0, 0x8000]);
 }
 
 fn lengths() {

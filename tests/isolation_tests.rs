@@ -173,7 +173,7 @@ fn owner_by_answers(plain: &mut Bridge, request: &RequestWords) -> Option<u64> {
         CLEAR if b > RECORD => None,
         DMA | ERROR => {
             plain.handle(Request::Error { requester: a });
-            let frozen = plain.state.chunks(3).position(|words| words[0] != 0);
+            let frozen = plain.state.chunks(4).position(|words| words[0] != 0);
             plain.state.fill(0);
             frozen.map(|pe| pe as u64)
         }
@@ -507,7 +507,7 @@ fn seen_words() {
     }
     assert_eq!(tells(&interrupts, &of_2, 1, 40), [16, 17, 18, 19, 20, 21, 22, 23]);
     assert_eq!(tells(&interrupts, &of_2, 2, 9), [1]);
-    assert_eq!(tells(&interrupts, &of_2, 7, 40), [6, 7, 8]);
+    assert_eq!(tells(&interrupts, &of_2, 7, 40), [8, 9, 10, 11]);
     // The PE word of each interrupt is public. What is past the table is nobody's.
     assert_eq!(tells(&interrupts, &[], 4, 16), [0, 4, 8, 12]);
     assert_eq!(tells(&interrupts, &of_2, 4, 16), [0, 1, 2, 3, 4, 8, 12]);

@@ -33,7 +33,7 @@ pub fn answer_words(answer: Answer) -> AnswerWords {
     let pe = answer.pe.unwrap_or(0);
     let server = answer.server.unwrap_or(0);
     let priority = answer.priority.unwrap_or(0);
-    [name, answer.reason, answer.value, answer.words, pe, server, priority, 0]
+    [name, answer.reason, answer.value, answer.words, pe, server, priority, answer.word]
 }
 
 /// The exported function on the tables of a plain bridge.

@@ -170,7 +170,7 @@ fn show_stop_bits(out: &mut Output, state: &[u64]) {
     for (index, word) in [0, 0x100000, 0].into_iter().enumerate() {
         out.set(WINDOWS, index, word);
     }
-    for (pe, words) in state.chunks(3).enumerate() {
+    for (pe, words) in state.chunks(4).enumerate() {
         out.set(REQUESTERS, 0, pe as u64);
         for (index, word) in [0, 1, 1, 0].into_iter().enumerate() {
             out.set(TRANSLATION, 8 * pe + index, word);
@@ -229,14 +229,14 @@ fn show_interrupts(out: &mut Output, interrupts: &[u64]) {
     }
 }
 
-/// A row of a limit, or why the text cannot say it: `sized` of sizes and lengths, `small` of an entry,
-/// or `formed` of a request.
+/// A row of a limit, or why the text cannot say it: `sized` of sizes and lengths, `walkable` of an
+/// entry, or `formed` of a request.
 fn limit(out: &mut Output, limit: &Value) -> Result<(), &'static str> {
     let good = limit.field("good").variant().0 == "true";
     match limit.field("gives").variant() {
         ("sized", [sizes, lengths]) => sized(out, sizes, lengths, good),
         ("formed", [request]) => formed(out, request, good),
-        ("small", _) => Err(NO_REQUEST),
+        ("walkable", _) => Err(NO_REQUEST),
         (name, _) => panic!("a limit of another test: {name}"),
     }
 }
@@ -323,11 +323,10 @@ fn formed(out: &mut Output, request: &Value, good: bool) -> Result<(), &'static 
 fn main() {
     let arguments: Vec<String> = env::args().skip(1).collect();
     let [crates, folder] = &arguments[..] else { panic!("usage: rows CRATES FOLDER") };
-    let specs = |name: &str| Path::new(crates).join(name).join("specs");
-    let names = Modules::read(&specs("profile"), &["Cases", "Reasons", "Limits"], |name| {
-        name.ends_with("Case") || name.ends_with("Cases")
-    });
-    let answers = Modules::read(&specs("kinds"), &["Answer"], |_| false);
+    let specs = ["profile", "kinds"].map(|name| Path::new(crates).join(name).join("specs"));
+    let roots = ["Cases", "Reasons", "Limits", "Answer", "Number"];
+    let names =
+        Modules::read(&specs, &roots, |name| name.ends_with("Case") || name.ends_with("Cases"));
 
     let [first, second, limits] =
         [("Cases", "cases"), ("Reasons", "reasons"), ("Limits", "limits")]
@@ -341,7 +340,7 @@ fn main() {
     for row in before.iter().chain(&after).copied().chain(limits.list()) {
         out.row = row.record().row.clone().expect("a row of a list");
         let is_limit = row.record().has("gives");
-        let done = if is_limit { limit(&mut out, row) } else { case(&mut out, &answers, row) };
+        let done = if is_limit { limit(&mut out, row) } else { case(&mut out, &names, row) };
         match done {
             Ok(()) => {
                 said += 1;

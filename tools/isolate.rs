@@ -148,7 +148,7 @@ fn same_words(
     for &(table, name) in tables {
         let words = files.each_ref().map(|file| words_of(&file.tables, table));
         for (i, (x, y)) in words[0].iter().zip(&words[1]).enumerate() {
-            let bits = if table == Table::State && i % 3 == 0 { 3 } else { u64::MAX };
+            let bits = if table == Table::State && i % 4 == 0 { 3 } else { u64::MAX };
             if x & bits != y & bits && counts(table, i) {
                 return Err(format!(
                     "{} {:x} is {:x} in {}, {:x} in {}",
@@ -203,14 +203,18 @@ fn answers(file: &mut File) -> Vec<AnswerWords> {
     answers.chunks_exact(ANSWER_WORDS).map(|x| x.try_into().unwrap()).collect()
 }
 
-/// Answer, reason, value and words as the replay text has them; then PE, or server and priority.
+/// Answer, reason, value and words as the replay text has them; then PE, server and priority, or the
+/// word that a walk stopped at.
 fn shown(answer: &AnswerWords) -> String {
-    let [name, reason, value, words, pe, server, priority, _] = *answer;
+    let [name, reason, value, words, pe, server, priority, word] = *answer;
     let names = ["pass", "msi", "held", "ones", "drop", "refuse", "done"];
     let first = format!("{} {} {:016x} {}", names[name as usize], reason, value, words);
-    match name {
-        PASS => format!("{} PE {:x}", first, pe),
-        MSI => format!("{} server {:x} priority {:x}", first, server, priority),
+    match (name, reason) {
+        (PASS, _) => format!("{} PE {:x}", first, pe),
+        (MSI, _) => format!("{} server {:x} priority {:x}", first, server, priority),
+        (_, REASON_TABLE_WORD | REASON_OUTSIDE_MEMORY) => {
+            format!("{} word {:x}", first, word)
+        }
         _ => first,
     }
 }

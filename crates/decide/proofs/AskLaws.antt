@@ -3,10 +3,12 @@ use mathlib.Core.Path.{_≡_, ap, _∙_}
 use mathlib.Core.Bool.{true}
 use mathlib.Core.List.{List}
 use Prim.Native.Nat.{ℕ, min}
+use Rattle.kinds.specs.Answer.{refuse}
 use Rattle.kinds.specs.Checked.{Kept, Ready, shown}
+use Rattle.kinds.specs.Number.{noWord}
 use Rattle.kinds.specs.Outcome.{done}
 use Rattle.kinds.specs.Words.{at}
-use Rattle.kinds.specs.declared.answer.Answer.the-variants.{Ones, Drop, Refuse}
+use Rattle.kinds.specs.declared.answer.Answer.the-variants.{Ones, Drop}
 use Rattle.kinds.specs.declared.answer.Reason.{Reason}
 use Rattle.kinds.specs.declared.answer.Reason.the-variants.{BadRequest, BadFirmware, ErrorMessage}
 use Rattle.kinds.specs.declared.lookup.Hit.{Hit}
@@ -27,7 +29,7 @@ use Rattle.profile.specs.Freeze.{stopWord}
 use Rattle.profile.specs.Msi.{interruptIn}
 use Rattle.profile.specs.Owner.{ofRequester, ofInterrupt, ofHit, ownerIn}
 use Rattle.profile.specs.Step.{formed, dmaAsked, accessed, ask, asked}
-use Rattle.profile.specs.Tables.{Live, named}
+use Rattle.profile.specs.Tables.{named}
 use Rattle.profile.specs.Windows.{route, onesOf}
 use Rattle.mmio.specs.AccessLaws.{ones-formed}
 use Rattle.owners.specs.ByOwner.{byOwner}
@@ -42,7 +44,7 @@ unfolding dmaOf
 by-pe c e l t q o found is f = of-pe (dmaOf c e l t q) o found is f
 
 -- `message`
-pub message : (r : ℕ) (p : PeNumber) {x : Outcome} {y : Check} → x ≡ done (Freeze (record { reason = ErrorMessage; value = r }) true)
+pub message : (r : ℕ) (p : PeNumber) {x : Outcome} {y : Check} → x ≡ done (Freeze (record { reason = ErrorMessage; value = r; word = noWord }) true)
     → y ≡ shown (Ready p x) → y ≡ shown (messageOf r p)
 unfolding messageOf
 message r p f made = made ∙ ap (λ (u : Outcome). shown (Ready p u)) f
@@ -62,7 +64,7 @@ module _ (z : Sizes) (r e w g t l : List ℕ) {n : ℕ} (pes : n ≡ z .pes) {y 
     pub error-pe : {p : PeNumber} → i ≡ Of p → x ≡ shown (messageOf q p) → x ≡ shown (asked z r e w g (live t l) y (ownerIn z r w g l y))
     error-pe h f = error-case is (of-pe (messageOf q) (ofRequester n (z .requesters) r q) found h f)
 
-    pub error-nobody : {a : Reason} → i ≡ Nobody a → x ≡ shown (Kept (Refuse a 0)) → x ≡ shown (asked z r e w g (live t l) y (ownerIn z r w g l y))
+    pub error-nobody : {a : Reason} → i ≡ Nobody a → x ≡ shown (Kept (refuse a)) → x ≡ shown (asked z r e w g (live t l) y (ownerIn z r w g l y))
     error-nobody h f = error-case is (of-nobody (messageOf q) (ofRequester n (z .requesters) r q) found h f)
 
   pub clear-case : {p : ℕ} {c : Part} → y ≡ Clear p c → x ≡ shown (byOwner (λ p. Ready p (done (Release c))) (named BadFirmware n p)) → x ≡ shown (asked z r e w g (live t l) y (ownerIn z r w g l y))
@@ -91,7 +93,7 @@ module _ (z : Sizes) (r e w g t l : List ℕ) {n : ℕ} (pes : n ≡ z .pes) {y 
     unfolding ask ownerIn
     store-case i f = asked-case z r e w g (live t l) i (rw (hit, pes) at f)
 
-pub unnamed-case : (z : Sizes) (r e w g t l : List ℕ) {y : Request} {x : Check} → y ≡ Unnamed → x ≡ shown (Kept (Refuse BadRequest 0))
+pub unnamed-case : (z : Sizes) (r e w g t l : List ℕ) {y : Request} {x : Check} → y ≡ Unnamed → x ≡ shown (Kept (refuse BadRequest))
     → x ≡ shown (asked z r e w g (live t l) y (ownerIn z r w g l y))
 unfolding asked ownerIn
 unnamed-case z r e w g t l i f = f ∙ rw i

@@ -6,8 +6,8 @@ use Prim.Native.Nat.{ℕ}
 use native.Mathlib.Omega.{arith}
 use mir.Syntax.{w16}
 use mir.Val.{Fits}
+use Rattle.kinds.specs.Answer.{refuse}
 use Rattle.kinds.specs.Checked.{Kept, Walk, shown}
-use Rattle.kinds.specs.declared.answer.Answer.the-variants.{Refuse}
 use Rattle.kinds.specs.declared.answer.Reason.the-variants.{TableLength, BadRequest}
 use Rattle.kinds.specs.declared.outcome.Check.{Check}
 use Rattle.kinds.specs.declared.outcome.Outcome.{Outcome}
@@ -33,12 +33,12 @@ module _ (z : Sizes) (n : Lengths) (r e w g : List ℕ) (s : Live) (y : Request)
   unfolding checked
   checked-asked o f h x = x ∙ rw (← i, o, ← f, h)
 
-  pub checked-formed : {good : Bool} {x : Check} → ok ≡ true → good ≡ formed y → good ≡ false → x ≡ shown (Kept (Refuse BadRequest 0))
+  pub checked-formed : {good : Bool} {x : Check} → ok ≡ true → good ≡ formed y → good ≡ false → x ≡ shown (Kept (refuse BadRequest))
       → x ≡ shown (checked z r e w g s (sized z n) y)
   unfolding checked
   checked-formed o f h x = x ∙ rw (← i, o, ← f, h)
 
-  pub checked-sized : {x : Check} → ok ≡ false → x ≡ shown (Kept (Refuse TableLength 0)) → x ≡ shown (checked z r e w g s (sized z n) y)
+  pub checked-sized : {x : Check} → ok ≡ false → x ≡ shown (Kept (refuse TableLength)) → x ≡ shown (checked z r e w g s (sized z n) y)
   unfolding checked
   checked-sized o x = x ∙ rw (← i, o)
 

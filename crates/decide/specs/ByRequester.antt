@@ -6,6 +6,7 @@ use mathlib.Core.Bool.{true}
 use mathlib.Core.List.{List}
 use Prim.Native.Nat.{ℕ}
 use Rattle.kinds.specs.Checked.{Checked, Ready}
+use Rattle.kinds.specs.Number.{noWord}
 use Rattle.kinds.specs.Outcome.{done}
 use Rattle.kinds.specs.Words.{at}
 use Rattle.kinds.specs.declared.answer.Reason.the-variants.{ErrorMessage}
@@ -19,4 +20,4 @@ unfoldable pub dmaOf : (count : ℕ) → (entries interrupts state : List ℕ) �
 dmaOf c e l t q p = dmaAsked c e l (at t (stopWord p)) p q
 
 unfoldable pub messageOf : ℕ → PeNumber → Checked
-messageOf r p = Ready p (done (Freeze (record { reason = ErrorMessage; value = r }) true))
+messageOf r p = Ready p (done (Freeze (record { reason = ErrorMessage; value = r; word = noWord }) true))

@@ -6,6 +6,7 @@ use firmware;
 use kinds::answer::Answer;
 use kinds::answer::Reason;
 use kinds::lookup::Owner;
+use kinds::number::NO_WORD;
 use kinds::number::PeNumber;
 use kinds::outcome::Check;
 use kinds::outcome::Effect;
@@ -61,6 +62,7 @@ fn message(pe: PeNumber, requester: u64) -> Check
     let error = ErrorRecord {
         reason: Reason::ErrorMessage,
         value: requester,
+        word: NO_WORD,
     };
     let outcome = outcomes::done(Effect::Freeze { error, peers: true });
     outcomes::ready(pe, outcome)

@@ -1,13 +1,14 @@
 -- What the functions of `dma` are proved from. Assumes nothing.
-use mathlib.Core.Path.{_≡_, refl, sym, ap, _∙_}
+use mathlib.Core.Path.{_≡_, refl, ap, _∙_}
 use mathlib.Core.Bool.{Bool, true, false}
 use mathlib.Core.List.{List}
 use Prim.Native.Nat.{ℕ, _≤_, _<_}
 use borrow.Author.Tests.{lt-ltb, le-ltb}
+use Rattle.kinds.specs.Answer.{refuse}
 use Rattle.kinds.specs.Checked.{Kept, Ready, Walk, shown}
+use Rattle.kinds.specs.Number.{noWord}
 use Rattle.kinds.specs.Outcome.{passed, failed}
 use Rattle.kinds.specs.Words.{at}
-use Rattle.kinds.specs.declared.answer.Answer.the-variants.{Refuse}
 use Rattle.kinds.specs.declared.answer.Reason.the-variants.{DmaStopped, BadEntry, OutsideWindow, MsiRefused, AddressClass}
 use Rattle.kinds.specs.declared.lookup.Translated.{Translated}
 use Rattle.kinds.specs.declared.number.ByteAddress.{ByteAddress}
@@ -55,11 +56,11 @@ module _ (e : TranslationEntry) (p : PeNumber) (q : DmaRequest) {o : ByteAddress
     unfolding outcomeOf
     by-bypass z f = made ∙ ap shown (ap (Ready p) (f ∙ rw cut) ∙ ends z refl)
 
-    pub by-bad : c ≡ way.BadEntry → x ≡ failed BadEntry (q .address) 0 → y ≡ shown (byEntry e p q)
+    pub by-bad : c ≡ way.BadEntry → x ≡ failed BadEntry (q .address) 0 noWord → y ≡ shown (byEntry e p q)
     unfolding outcomeOf
     by-bad z f = made ∙ ap shown (ap (Ready p) f ∙ ends z refl)
 
-    pub by-outside : c ≡ way.OutsideWindow → x ≡ failed OutsideWindow (q .address) 0 → y ≡ shown (byEntry e p q)
+    pub by-outside : c ≡ way.OutsideWindow → x ≡ failed OutsideWindow (q .address) 0 noWord → y ≡ shown (byEntry e p q)
     unfolding outcomeOf
     by-outside z f = made ∙ ap shown (ap (Ready p) f ∙ ends z refl)
 
@@ -70,11 +71,11 @@ module _ (k : ℕ) (l : List ℕ) (p : PeNumber) (q : DmaRequest) (i : ℕ) {goo
   unfolding msi
   taken g h e f = f ∙ rw (← form, g, lt-ltb _ _ h, e)
 
-  pub past-last : good ≡ true → k ≤ i → x ≡ failed MsiRefused (q .address) 0 → x ≡ msi k l p (q .address) i (msiFormed (q .direction) (q .address) (q .length))
+  pub past-last : good ≡ true → k ≤ i → x ≡ failed MsiRefused (q .address) 0 noWord → x ≡ msi k l p (q .address) i (msiFormed (q .direction) (q .address) (q .length))
   unfolding msi
   past-last g h f = f ∙ rw (← form, g, le-ltb _ _ h)
 
-  pub ill-formed : good ≡ false → x ≡ failed MsiRefused (q .address) 0 → x ≡ msi k l p (q .address) i (msiFormed (q .direction) (q .address) (q .length))
+  pub ill-formed : good ≡ false → x ≡ failed MsiRefused (q .address) 0 noWord → x ≡ msi k l p (q .address) i (msiFormed (q .direction) (q .address) (q .length))
   unfolding msi
   ill-formed g f = f ∙ rw (← form, g)
 
@@ -95,12 +96,12 @@ module _ (k : ℕ) (e l : List ℕ) (p : PeNumber) (q : DmaRequest) {c : classes
     pub by-msi64 : c ≡ class.Msi64 → i ≡ number64 (q .address) (q .«data») → y ≡ shown (served (classOf (q .address)) k e l p q)
     by-msi64 o n = class-case o (unfold served in rw (← n) (made ∙ ap (λ (u : Outcome). shown (Ready p u)) f))
 
-  pub by-none : {x : Outcome} {y : Check} → y ≡ shown (Ready p x) → c ≡ class.Unserved → x ≡ failed AddressClass (q .address) 0 → y ≡ shown (served (classOf (q .address)) k e l p q)
+  pub by-none : {x : Outcome} {y : Check} → y ≡ shown (Ready p x) → c ≡ class.Unserved → x ≡ failed AddressClass (q .address) 0 noWord → y ≡ shown (served (classOf (q .address)) k e l p q)
   by-none made i f = class-case i (unfold served in made ∙ ap (λ (u : Outcome). shown (Ready p u)) f)
 
 -- `check_dma`
 module _ (k : ℕ) (e l t : List ℕ) (p : PeNumber) (q : DmaRequest) {w : ℕ} {o : Bool} (h : w ≡ at t (stopWord p)) (i : o ≡ dmaStopped w) where
-  pub stopped : {x : Check} → o ≡ true → x ≡ shown (Kept (Refuse DmaStopped 0)) → x ≡ shown (dmaAsked k e l (at t (stopWord p)) p q)
+  pub stopped : {x : Check} → o ≡ true → x ≡ shown (Kept (refuse DmaStopped)) → x ≡ shown (dmaAsked k e l (at t (stopWord p)) p q)
   unfolding dmaAsked
   stopped z f = f ∙ rw (← h, ← i, z)
 

@@ -7,6 +7,7 @@ use endpoints;
 use kinds::answer::Reason;
 use kinds::lookup::Translated;
 use kinds::number::ByteAddress;
+use kinds::number::NO_WORD;
 use kinds::number::PeNumber;
 use kinds::outcome::Check;
 use kinds::outcome::Outcome;
@@ -30,7 +31,7 @@ fn outcome_of(pe: PeNumber, address: ByteAddress, result: Translated, words: u64
 {
     match result {
         Translated::To(to) => outcomes::passed(pe, to, words),
-        Translated::Fault { reason, place: _ } => outcomes::failed(reason, address, words),
+        Translated::Fault { reason, word } => outcomes::failed(reason, address, words, word),
     }
 }
 
@@ -49,11 +50,11 @@ fn by_entry(entry: TranslationEntry, pe: PeNumber, dma: DmaRequest) -> Check
             return outcomes::ready(pe, outcome);
         }
         Way::BadEntry => {
-            let outcome = outcomes::failed(Reason::BadEntry, address, 0);
+            let outcome = outcomes::failed(Reason::BadEntry, address, 0, NO_WORD);
             return outcomes::ready(pe, outcome);
         }
         Way::OutsideWindow => {
-            let outcome = outcomes::failed(Reason::OutsideWindow, address, 0);
+            let outcome = outcomes::failed(Reason::OutsideWindow, address, 0, NO_WORD);
             return outcomes::ready(pe, outcome);
         }
     }
@@ -70,9 +71,9 @@ fn deliver(count: u64, interrupts: &[u64], pe: PeNumber, dma: DmaRequest, number
             let record = interrupts::interrupt_at(interrupts, number);
             return msi::deliver(pe, address, number, record);
         }
-        return outcomes::failed(Reason::MsiRefused, address, 0);
+        return outcomes::failed(Reason::MsiRefused, address, 0, NO_WORD);
     }
-    outcomes::failed(Reason::MsiRefused, address, 0)
+    outcomes::failed(Reason::MsiRefused, address, 0, NO_WORD)
 }
 
 // A DMA of a PE that is not stopped, by the class of its address.
@@ -95,7 +96,7 @@ fn by_class(count: u64, entries: &[u64], interrupts: &[u64], pe: PeNumber, dma: 
             return outcomes::ready(pe, outcome);
         }
         AddressClass::Unserved => {
-            let outcome = outcomes::failed(Reason::AddressClass, address, 0);
+            let outcome = outcomes::failed(Reason::AddressClass, address, 0, NO_WORD);
             return outcomes::ready(pe, outcome);
         }
     }

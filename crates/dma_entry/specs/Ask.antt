@@ -7,6 +7,7 @@
 use mathlib.Core.Bool.{cond}
 use Prim.Native.Nat.{_^_}
 use lib.Dec.{ltb}
+use Rattle.kinds.specs.Number.{noWord}
 use Rattle.kinds.specs.declared.answer.Reason.the-variants as reason
 use Rattle.kinds.specs.declared.lookup.Translated.{Translated}
 use Rattle.kinds.specs.declared.lookup.Translated.the-variants.{To, Fault}
@@ -26,7 +27,7 @@ abbrev pub asked : TranslationEntry → (offset : ByteAddress) → Way
 asked e o = cond (tableGood e) (cond (bypass e) (askedBypass e o) (askedPages e o)) BadEntry
 
 abbrev pub ended : Way → (offset : ByteAddress) → Translated
-ended (Walk s) o = Fault reason.BadEntry 0
+ended (Walk s) o = Fault reason.BadEntry noWord
 ended Bypass o = To o
-ended BadEntry o = Fault reason.BadEntry 0
-ended OutsideWindow o = Fault reason.OutsideWindow 0
+ended BadEntry o = Fault reason.BadEntry noWord
+ended OutsideWindow o = Fault reason.OutsideWindow noWord

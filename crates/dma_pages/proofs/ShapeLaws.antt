@@ -7,7 +7,7 @@ use native.Mathlib.Omega.{arith}
 use mir.Syntax.{w64}
 use mir.Val.{Fits}
 use lib.Bits.{bitAnd, and-mask}
-use lib.Dec.{leb, eqb}
+use lib.Dec.{eqb}
 use lib.Pow.{pow-pos, pow-mono}
 use borrow.Author.Tests.{lt-leb, le-leb, ne-eqb}
 use Rattle.kinds.specs.Number.{pageBits}
@@ -18,7 +18,7 @@ use Rattle.kinds.specs.declared.number.ByteAddress.{ByteAddress}
 use Rattle.kinds.specs.declared.number.PageSize.{PageSize}
 use Rattle.kinds.specs.declared.number.PageSize.the-variants.{K4, K64, M16, M256}
 use Rattle.kinds.specs.declared.record.TranslationEntry.{TranslationEntry}
-use Rattle.profile.specs.Entry.{pageSize, span, aligned, pagesGood, small, offsetBits, mostTableCode, codeBits, mostLevels}
+use Rattle.profile.specs.Entry.{pageSize, span, aligned, pagesGood, walkable, offsetBits, mostTableCode, codeBits, mostLevels}
 use Rattle.dma_pages.specs.Shape.{known, sizeCode, shapeOf}
 use Rattle.dma_pages.specs.declared.page_tables.Shape.the-variants.{Pages, Bad}
 use Rattle.dma_pages.specs.declared.page_tables.SizeCode.{SizeCode}
@@ -122,19 +122,24 @@ pub at-zero : (n : ℕ) → 60 < n → (b : ByteAddress) → b .0 < 2 ^ 64 → e
 unfolding aligned
 at-zero n h b fits = rw (mod-eq-of-lt (lt-of-lt-of-le fits (pow-mono {i = 64} {j = 3 + n} (omega arith))))
 
--- `is_small`
-pub large-code : (e : TranslationEntry) → mostTableCode < e .table → false ≡ small e
-unfolding small
+-- `is_walkable`
+pub large-code : (e : TranslationEntry) → mostTableCode < e .table → false ≡ walkable e
+unfolding walkable
 large-code e h = rw (lt-leb _ _ h)
 
 module _ (e : TranslationEntry) (table : e .table ≤ mostTableCode) where
-  pub deep : mostLevels < e .levels → false ≡ small e
-  unfolding small
+  pub deep : mostLevels < e .levels → false ≡ walkable e
+  unfolding walkable
   deep h = rw (le-leb _ _ table, lt-leb _ _ h)
 
-  pub small-bits : e .levels ≤ mostLevels → leb ((e .table + codeBits) * e .levels) offsetBits ≡ small e
-  unfolding small
-  small-bits h = rw (le-leb _ _ table, le-leb _ _ h) (sym (and-true (leb ((e .table + codeBits) * e .levels) offsetBits)))
+  module _ (few : e .levels ≤ mostLevels) where
+    pub wide-indexes : offsetBits < (e .table + codeBits) * e .levels → false ≡ walkable e
+    unfolding walkable
+    wide-indexes h = rw (le-leb _ _ table, le-leb _ _ few, lt-leb _ _ h)
+
+    pub by-base : (e .table + codeBits) * e .levels ≤ offsetBits → {ok : Bool} → ok ≡ aligned (e .table + codeBits) (record { 0 = e .base }) → ok ≡ walkable e
+    unfolding walkable
+    by-base h f = f ∙ rw (le-leb _ _ table, le-leb _ _ few, le-leb _ _ h) (sym (and-true (aligned (e .table + codeBits) (record { 0 = e .base }))))
 
   pub bits-fit : e .levels ≤ mostLevels → Fits w64 ((e .table + codeBits) * e .levels)
   bits-fit h = omega (arith, mul-le-mul (index-few (e .table) table) h)

@@ -8,7 +8,7 @@ use profile::limits::MOST_LEVELS;
 use profile::limits::MOST_TABLE_CODE;
 use profile::limits::OFFSET_BITS;
 ghost use mathlib.Core.Path.{_≡_};
-ghost use Rattle.profile.specs.Entry.{aligned, pageSize, small};
+ghost use Rattle.profile.specs.Entry.{aligned, pageSize, walkable};
 ghost use Rattle.dma_pages.specs.Shape.{sizeCode, shapeOf};
 
 // The most bits of an index for which the bytes of a table are a number of 64 bits.
@@ -61,8 +61,8 @@ pub fn size_of(entry: TranslationEntry) -> PageSize
 }
 
 // Whether the table of an entry can be walked at all.
-pub fn is_small(entry: TranslationEntry) -> bool
-    ensures { λ r. ⌜ r ≡ small entry ⌝ }
+pub fn is_walkable(entry: TranslationEntry) -> bool
+    ensures { λ r. ⌜ r ≡ walkable entry ⌝ }
 {
     let table = entry.table;
     if MOST_TABLE_CODE < table {
@@ -71,7 +71,11 @@ pub fn is_small(entry: TranslationEntry) -> bool
     if MOST_LEVELS < entry.levels {
         return false;
     }
-    (table + CODE_BITS) * entry.levels <= OFFSET_BITS
+    let bits = table + CODE_BITS;
+    if OFFSET_BITS < bits * entry.levels {
+        return false;
+    }
+    aligned(bits, ByteAddress(entry.base))
 }
 
 // The shape that an entry gives its table; a table code above the largest is bad.

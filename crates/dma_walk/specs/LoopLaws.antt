@@ -2,6 +2,7 @@
 --     later n w           walk w after n words
 -- Assumes nothing.
 use mathlib.Core.Path.{_≡_, sym, ap, _∙_}
+use mathlib.Core.Bool.{true}
 use mathlib.Core.List.{List}
 use Prim.Native.Nat.{ℕ, zero, suc, _+_, _-_, _*_, _≤_, _<_}
 use native.Mathlib.Nat.{mul-le-mul-left, zero-add, add-zero, suc-add, add-suc}
@@ -9,7 +10,8 @@ use native.Mathlib.Numerals.{add-one, sub-one}
 use native.Mathlib.Omega.{arith}
 use mir.Syntax.{w64}
 use mir.Val.{Fits}
-use Rattle.profile.specs.Entry.{offsetBits, mostLevels}
+use Rattle.profile.specs.Entry.{aligned, offsetBits, mostLevels}
+use Rattle.kinds.specs.Number.{noWord}
 use Rattle.kinds.specs.Words.{at}
 use Rattle.kinds.specs.declared.lookup.Found.{Found}
 use Rattle.kinds.specs.declared.lookup.Found.the-variants.{Forbidden}
@@ -17,7 +19,7 @@ use Rattle.kinds.specs.declared.number.ByteAddress.{ByteAddress}
 use Rattle.kinds.specs.declared.number.PageNumber.{PageNumber}
 use Rattle.profile.specs.Walk.{place, nextBase, turn, walkFrom}
 use Rattle.dma_walk.specs.Turn.{stepped, taken, counted}
-use Rattle.dma_walk.specs.TurnLaws.{step-is, step-base, step-words}
+use Rattle.dma_walk.specs.TurnLaws.{step-is, step-base, step-aligned, step-words}
 use Rattle.dma_walk.specs.declared.walk.Next.{Next}
 use Rattle.dma_walk.specs.declared.walk.Next.the-variants.{Table, End}
 use Rattle.dma_walk.specs.declared.walk.Walked.{Walked}
@@ -60,10 +62,13 @@ module _ (m : List ℕ) (q : PageNumber) (n top l words : ℕ) (first base : Byt
   pub lower : {b : ByteAddress} → x ≡ Table b → counted (walkFrom m top n first q) ≡ later (words + 1) (counted (walkFrom m (l - 1) n b q))
   lower {b} z = turned ∙ rw (step-base m (l - 1) n base q b (sym e ∙ z), z, add-one, suc-add, add-suc)
 
+  pub lower-aligned : {b : ByteAddress} → x ≡ Table b → aligned n b ≡ true
+  lower-aligned {b} z = step-aligned m (l - 1) n base q b (sym e ∙ z)
+
 -- no level is left
 pub done : (m : List ℕ) (q : PageNumber) (n top l words : ℕ) (first base : ByteAddress) →
     counted (walkFrom m top n first q) ≡ later words (counted (walkFrom m l n base q)) → l ≤ 0 →
-    _≡_ {A = Walked} (record { found = Forbidden 0; words = words }) (counted (walkFrom m top n first q))
+    _≡_ {A = Walked} (record { found = Forbidden noWord; words = words }) (counted (walkFrom m top n first q))
 unfolding walkFrom
 done m q n top zero words first base same none = sym (same ∙ rw add-zero)
 done m q n top (suc k) words first base same none = absurd (omega arith)

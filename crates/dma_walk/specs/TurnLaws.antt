@@ -1,18 +1,21 @@
 -- The walk is made of the code's turns.
 --     step-is             THE LAW: the walk of one level more, by what that level comes to
---     step-base           the base that a level leads to; step-words: a level reads at most one word
+--     step-base           the base that a level leads to; step-aligned: it is aligned; step-words: a level reads at most one word
 -- Assumes nothing.
 use mathlib.Core.Path.{_≡_, refl}
+use mathlib.Core.Bool.{true, not}
 use mathlib.Core.List.{List}
-use Prim.Native.Nat.{ℕ, zero, suc, _≤_, _-_}
+use Prim.Native.Nat.{ℕ, zero, suc, _≤_, _-_, _%_}
 use native.Mathlib.Omega.{arith}
-use lib.Dec.{ltb}
+use lib.Dec.{ltb, eqb}
 use lib.ListN.{length}
-use Rattle.kinds.specs.Tests.{by-cases}
+use Rattle.kinds.specs.Number.{wordAddress}
+use Rattle.kinds.specs.Tests.{by-cases, and-right}
 use Rattle.kinds.specs.Words.{at}
 use Rattle.kinds.specs.declared.lookup.Found.{Found}
 use Rattle.kinds.specs.declared.number.ByteAddress.{ByteAddress}
 use Rattle.kinds.specs.declared.number.PageNumber.{PageNumber}
+use Rattle.profile.specs.Entry.{aligned}
 use Rattle.profile.specs.Walk.{place, nextBase, leads, turn, walkFrom}
 use Rattle.profile.specs.Walk as definition
 use Rattle.dma_walk.specs.Turn.{next, stepped, taken, counted}
@@ -34,6 +37,11 @@ unfolding next
 next-base zero n j w b e = cc
 next-base (suc k) n j w b e = by-cases (leads n w) (λ t. let f = rw t at e in cc) (λ t. let f = rw t at e in cc)
 
+next-leads : (k n j w : ℕ) (b : ByteAddress) → next k n j w ≡ Table b → leads n w ≡ true
+unfolding next
+next-leads zero n j w b e = cc
+next-leads (suc k) n j w b e = by-cases (leads n w) (λ t. t) (λ t. let f = rw t at e in cc)
+
 next-words : (k n j w : ℕ) (f : Found) (c : ℕ) → next k n j w ≡ End f c → c ≡ 1
 unfolding next
 next-words zero n j w f c e = cc
@@ -46,6 +54,17 @@ module _ (m : List ℕ) (k n : ℕ) (b : ByteAddress) (q : PageNumber) where
       by-cases (ltb (place k n b q) (length m))
       (λ t. next-base k n (place k n b q) (at m (place k n b q)) c (rw t at e))
       (λ t. let f = rw t at e in cc)
+
+  step-leads : (c : ByteAddress) → stepped m k n b q ≡ Table c → leads n (at m (place k n b q)) ≡ true
+  unfolding stepped
+  step-leads c e =
+      by-cases (ltb (place k n b q) (length m))
+      (λ t. next-leads k n (place k n b q) (at m (place k n b q)) c (rw t at e))
+      (λ t. let f = rw t at e in cc)
+
+  pub step-aligned : (c : ByteAddress) → stepped m k n b q ≡ Table c → aligned n c ≡ true
+  unfolding leads
+  step-aligned c e = rw (← step-base c e) (and-right (not (eqb (at m (place k n b q) % 4) 0)) _ (step-leads c e))
 
   pub step-words : (f : Found) (c : ℕ) → stepped m k n b q ≡ End f c → c ≤ 1
   unfolding stepped

@@ -51,35 +51,35 @@ pub(crate) fn land(
     ensures { λ r. ⌜ r ≡ landed size direction offset found ⌝ }
 {
     match found {
-        Found::Frame { place, word } => land_in(size, direction, offset, place, word),
-        Found::Forbidden { place } => Translated::Fault {
+        Found::Frame { word, content } => land_in(size, direction, offset, word, content),
+        Found::Forbidden { word } => Translated::Fault {
             reason: Reason::TableWord,
-            place,
+            word,
         },
-        Found::Outside { place } => Translated::Fault {
+        Found::Outside { word } => Translated::Fault {
             reason: Reason::OutsideMemory,
-            place,
+            word,
         },
     }
 }
 
-// By the last table word, which is memory word `place`.
+// By the content of the last table word.
 fn land_in(
     size: PageSize,
     direction: Direction,
     offset: ByteAddress,
-    place: u64,
-    word: u64,
+    word: ByteAddress,
+    content: u64,
 ) -> Translated
-    ensures { λ r. ⌜ r ≡ landed size direction offset (Frame place word) ⌝ }
+    ensures { λ r. ⌜ r ≡ landed size direction offset (Frame word content) ⌝ }
 {
-    if allows(direction, word) {
-        let frame = page_number(size, ByteAddress(word));
+    if allows(direction, content) {
+        let frame = page_number(size, ByteAddress(content));
         return Translated::To(byte_address(size, frame, offset));
     }
     Translated::Fault {
         reason: Reason::TableWord,
-        place,
+        word,
     }
 }
 

@@ -1,16 +1,22 @@
 // The walk of a page table.
 use dma_pages::page_tables::aligned;
-use dma_pages::page_tables::is_small;
+use dma_pages::page_tables::is_walkable;
 use kinds::lookup::Found;
 use kinds::number::ByteAddress;
+use kinds::number::NO_WORD;
 use kinds::number::PageNumber;
 use kinds::record::TranslationEntry;
 use profile::limits::CODE_BITS;
+use profile::limits::WORD_BYTES;
 ghost use mathlib.Core.Path.{_≡_};
-ghost use Prim.Native.Nat.{_+_, _*_, _<_, _≤_};
-ghost use Rattle.profile.specs.Entry.{mostTableCode, codeBits};
+ghost use mathlib.Core.Bool.{true};
+ghost use Prim.Native.Nat.{_+_, _*_, _^_, _<_, _≤_};
+ghost use Rattle.kinds.specs.Number.{wordBytes, wordAddress};
+ghost use Rattle.kinds.specs.declared.lookup.Found.the-variants.{Forbidden};
+ghost use Rattle.profile.specs.Entry.{aligned, mostTableCode, codeBits};
 ghost use Rattle.profile.specs.Walk.{place, nextBase, walk, walkedPage};
 ghost use Rattle.dma_walk.specs.Turn.{Shaped, next, stepped, counted};
+ghost use Rattle.dma_walk.specs.declared.walk.Next.the-variants.{End};
 
 // What a walk found, and the count of words that it read.
 pub struct Walked {
@@ -40,29 +46,47 @@ fn next_base(word: u64) -> ByteAddress
     ByteAddress((word >> 12) << 12)
 }
 
-// What the word at a place gives, with `below` levels below its table.
-pub(crate) fn turn(below: u64, bits: u64, place: u64, word: u64) -> Next
-    requires { ⌜ bits ≤ mostTableCode + codeBits ⌝ }
-    ensures { λ r. ⌜ r ≡ next below bits place word ⌝ }
+// The byte address of a memory word.
+fn word_address(place: u64) -> ByteAddress
+    requires { ⌜ place * wordBytes < 2 ^ 64 ⌝ }
+    ensures { λ r. ⌜ r ≡ wordAddress place ⌝ }
+{
+    ByteAddress(place * WORD_BYTES)
+}
+
+// What the content of the memory word at a place gives, with `below` levels below its table.
+pub(crate) fn turn(below: u64, bits: u64, place: u64, content: u64) -> Next
+    requires { ⌜ (bits ≤ mostTableCode + codeBits) × (place * wordBytes < 2 ^ 64) ⌝ }
+    ensures { λ r. ⌜ r ≡ next below bits place content ⌝ }
 {
     if below == 0 {
         return Next::End {
-            found: Found::Frame { place, word },
+            found: Found::Frame {
+                word: word_address(place),
+                content,
+            },
             words: 1,
         };
     }
-    if word % 4 == 0 {
-        return Next::End {
-            found: Found::Forbidden { place },
-            words: 1,
-        };
+    if content % 4 == 0 {
+        return forbidden(place);
     }
-    let base = next_base(word);
+    let base = next_base(content);
     if aligned(bits, base) {
         return Next::Table(base);
     }
+    forbidden(place)
+}
+
+// The end at an upper word that does not lead on.
+fn forbidden(place: u64) -> Next
+    requires { ⌜ place * wordBytes < 2 ^ 64 ⌝ }
+    ensures { λ r. ⌜ r ≡ End (Forbidden (wordAddress place)) 1 ⌝ }
+{
     Next::End {
-        found: Found::Forbidden { place },
+        found: Found::Forbidden {
+            word: word_address(place),
+        },
         words: 1,
     }
 }
@@ -75,13 +99,15 @@ pub(crate) fn step(
     base: ByteAddress,
     page: PageNumber,
 ) -> Next
-    requires { ⌜ (bits ≤ mostTableCode + codeBits) × (bits * below < 64) ⌝ }
+    requires { ⌜ (bits ≤ mostTableCode + codeBits) × (bits * below < 64) × (aligned bits base ≡ true) ⌝ }
     ensures { λ r. ⌜ r ≡ stepped (now (memory .entry)) below bits base page ⌝ }
 {
     let at = place(below, bits, base, page);
     if memory.len() <= at {
         return Next::End {
-            found: Found::Outside { place: at as u64 },
+            found: Found::Outside {
+                word: word_address(at as u64),
+            },
             words: 0,
         };
     }
@@ -113,7 +139,7 @@ fn walk(memory: &[u64], entry: TranslationEntry, page: PageNumber) -> Walked
         }
     }
     Walked {
-        found: Found::Forbidden { place: 0 },
+        found: Found::Forbidden { word: NO_WORD },
         words,
     }
 }
@@ -122,11 +148,11 @@ fn walk(memory: &[u64], entry: TranslationEntry, page: PageNumber) -> Walked
 pub fn walk_page(memory: &[u64], entry: TranslationEntry, page: PageNumber) -> Walked
     ensures { λ r. ⌜ r ≡ counted (walkedPage (now (memory .entry)) entry page) ⌝ }
 {
-    if is_small(entry) {
+    if is_walkable(entry) {
         return walk(memory, entry, page);
     }
     Walked {
-        found: Found::Forbidden { place: 0 },
+        found: Found::Forbidden { word: NO_WORD },
         words: 0,
     }
 }

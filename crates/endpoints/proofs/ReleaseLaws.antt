@@ -19,6 +19,7 @@ module _ (c : Part) (p : PeNumber) (l : List ℕ) {b : ℕ} (stop : b ≡ at l (
   unfolding released
   released-dma e h = rw (e, ← stop) h
 
-  pub released-record : {m x : List ℕ} → c ≡ Record → m ≡ set l (p .0 * stateWords + 1) 0 → x ≡ set m (p .0 * stateWords + 2) 0 → x ≡ released c p l
+  pub released-record : {m n x : List ℕ} → c ≡ Record → m ≡ set l (p .0 * stateWords + 1) 0 → n ≡ set m (p .0 * stateWords + 2) 0
+      → x ≡ set n (p .0 * stateWords + 3) 0 → x ≡ released c p l
   unfolding released
-  released-record e f h = rw (e, ← f) h
+  released-record e f g h = rw (e, ← f, ← g) h

@@ -8,7 +8,7 @@ ghost use mathlib.Core.Path.{_≡_};
 ghost use Rattle.kinds.specs.Words.{at, bitOf};
 ghost use Rattle.profile.specs.Freeze.{dmaStopped, stopWord, released, vectorIn};
 
-// Stop bits, reason, value.
+// Stop bits, reason, value, table word.
 pub const STATE_WORDS: usize = limits::STATE_WORDS as usize;
 
 pub fn dma_stopped(stop: u64) -> bool
@@ -34,6 +34,7 @@ pub fn release(state: &mut [u64], pe: PeNumber, part: Part)
         Part::Record => {
             put(state, first + 1, 0);
             put(state, first + 2, 0);
+            put(state, first + 3, 0);
         }
     }
 }

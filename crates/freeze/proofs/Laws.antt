@@ -17,21 +17,26 @@ use Rattle.kinds.specs.declared.number.PeNumber.{PeNumber}
 use Rattle.kinds.specs.declared.outcome.ErrorRecord.{ErrorRecord}
 use Rattle.profile.specs.Freeze.{froze}
 use Rattle.profile.specs.Tables.{stateWords}
-use Rattle.freeze.specs.Turn.{stopped, peersStopped, listsNobody, turned, peerTurn, endOf, frozeAll}
+use Rattle.freeze.specs.Turn.{recorded, stopped, peersStopped, listsNobody, turned, peerTurn, endOf, frozeAll}
 use Rattle.freeze.specs.TurnLaws.{length-turned, turns-is, nobody-stopped, both-is, end-within, part-is}
 
--- b and o are the stop word and the reason that were read
-module _ (l : List ℕ) (k r v : ℕ) {b o : ℕ} {m : List ℕ} (stop : b ≡ at l (k * stateWords)) (reason : o ≡ at l (k * stateWords + 1)) (bits : m ≡ set l (k * stateWords) (b / 4 * 4 + 3)) where
-  pub stopped-empty : {n x : List ℕ} → o ≡ 0 → n ≡ set m (k * stateWords + 1) r → x ≡ set n (k * stateWords + 2) v → x ≡ stopped r v l k
-  unfolding stopped
-  stopped-empty e f g = rw (← reason, eq-eqb o 0 e, ← stop, ← bits, ← f) g
+-- `record`
+pub record-is : (r v w : ℕ) (l : List ℕ) (i : ℕ) {m n x : List ℕ} → m ≡ set l (i + 1) r → n ≡ set m (i + 2) v → x ≡ set n (i + 3) w → x ≡ recorded r v w l i
+unfolding recorded
+record-is r v w l i f g h = rw (← f, ← g) h
 
-  pub stopped-full : (o ≡ 0 → ⊥) → m ≡ stopped r v l k
+-- `stop`: b and o are the stop word and the reason that were read
+module _ (l : List ℕ) (k r v w : ℕ) {b o : ℕ} {m : List ℕ} (stop : b ≡ at l (k * stateWords)) (reason : o ≡ at l (k * stateWords + 1)) (bits : m ≡ set l (k * stateWords) (b / 4 * 4 + 3)) where
+  pub stopped-empty : {x : List ℕ} → o ≡ 0 → x ≡ recorded r v w m (k * stateWords) → x ≡ stopped r v w l k
+  unfolding stopped
+  stopped-empty e h = rw (← reason, eq-eqb o 0 e, ← stop, ← bits) h
+
+  pub stopped-full : (o ≡ 0 → ⊥) → m ≡ stopped r v w l k
   unfolding stopped
   stopped-full e = rw (← reason, ne-eqb o 0 e, ← stop) bits
 
 module _ (b : Bool) (p : PeNumber) (l : List ℕ) (k : ℕ) where
-  pub turned-peer : {n : ℕ} {x : List ℕ} → b ≡ true → (k ≡ p .0 → ⊥) → n ≡ reasonNumber FrozenAsPeer → x ≡ stopped n (p .0) l k → x ≡ turned b p l k
+  pub turned-peer : {n : ℕ} {x : List ℕ} → b ≡ true → (k ≡ p .0 → ⊥) → n ≡ reasonNumber FrozenAsPeer → x ≡ stopped n (p .0) 0 l k → x ≡ turned b p l k
   unfolding turned
   turned-peer y e f h = rw (ne-eqb k (p .0) e, y, ← f) h
 
@@ -65,7 +70,7 @@ module _ (l : List ℕ) (b : ℕ) {n : ℕ} (end : n ≡ endOf (length l) b) whe
 
 -- `freeze_all`: m is the state after the failing PE is stopped
 module _ (v : List ℕ) (p : PeNumber) (e : ErrorRecord) (l : List ℕ) {n : ℕ} {m : List ℕ} (number : n ≡ reasonNumber (e .reason))
-    (first : m ≡ stopped n (e .value) l (p .0)) where
+    (first : m ≡ stopped n (e .value) (e .word .0) l (p .0)) where
   pub froze-both : {x : List ℕ} → x ≡ peersStopped v p m → x ≡ frozeAll v p e l
   froze-both h = h ∙ rw (first, number) (both-is v p e l)
 
@@ -81,5 +86,5 @@ module _ (v : List ℕ) (p : PeNumber) (l : List ℕ) {m : List ℕ} (k : ℕ) (
     pub turn-length : length m ≡ length l → length x ≡ length l
     turn-length g = ap length (rw asked at h) ∙ length-turned v p m k ∙ g
 
-    pub turn-last : length m ≡ length l → length m ≤ k * stateWords + 2 → x ≡ peersStopped v p l
+    pub turn-last : length m ≡ length l → length m ≤ k * stateWords + 3 → x ≡ peersStopped v p l
     turn-last g f = turn-next ∙ turns-is v p l (k + 1) (omega (arith, g, f))

@@ -27,7 +27,7 @@ use Rattle.kinds.specs.declared.number.PeNumber.{PeNumber}
 use Rattle.kinds.specs.declared.outcome.ErrorRecord.{ErrorRecord}
 use Rattle.profile.specs.Freeze.{asPeer, marked, frozen, ofPes, froze}
 use Rattle.profile.specs.Tables.{stateWords}
-use Rattle.freeze.specs.Turn.{stopped, asPeerOf, peersStopped, zeroWords, listsNobody, turned, peerTurn, endOf, frozeAll}
+use Rattle.freeze.specs.Turn.{recorded, stopped, asPeerOf, peersStopped, zeroWords, listsNobody, turned, peerTurn, endOf, frozeAll}
 
 -- a word of one state or of another
 at-either : (b : Bool) (l m : List ℕ) (i : ℕ) → at (cond b l m) i ≡ cond b (at l i) (at m i)
@@ -43,10 +43,10 @@ module _ (l : List ℕ) (k : ℕ) where
   abbrev owned : ℕ → Bool
   owned i = eqb (i / stateWords) k && ltb i (length l)
 
-  -- word i is the stop word, the reason or the value of PE k, or none of them
+  -- word i is the stop word, the reason, the value or the table word of PE k, or none of them
   word-cases : {P : Type 0} (i : ℕ) → (owned i ≡ true → i % stateWords ≡ 0 → k * stateWords ≡ i → P) → (owned i ≡ true → i % stateWords ≡ 1 → P)
-      → (owned i ≡ true → i % stateWords ≡ 2 → P) → (owned i ≡ false → P) → P
-  word-cases i stop reason value other =
+      → (owned i ≡ true → i % stateWords ≡ 2 → P) → (owned i ≡ true → i % stateWords ≡ 3 → P) → (owned i ≡ false → P) → P
+  word-cases i stop reason value word other =
       by-cases (owned i)
       (λ g. let e = eqb-true (i / stateWords) k (and-left _ _ g) in
       by-cases (eqb (i % stateWords) 0)
@@ -54,21 +54,24 @@ module _ (l : List ℕ) (k : ℕ) where
       (λ o. let x = eqb-false (i % stateWords) 0 o in
       by-cases (eqb (i % stateWords) 1)
       (λ p. reason g (eqb-true (i % stateWords) 1 p))
-      (λ p. let y = eqb-false (i % stateWords) 1 p in value g (omega arith))))
+      (λ p. let y = eqb-false (i % stateWords) 1 p in
+      by-cases (eqb (i % stateWords) 2)
+      (λ q. value g (eqb-true (i % stateWords) 2 q))
+      (λ q. let v = eqb-false (i % stateWords) 2 q in word g (omega arith)))))
       other
 
   module _ (e : ErrorRecord) where
-    length-stopped : length (stopped (reasonNumber (e .reason)) (e .value) l k) ≡ length l
-    unfolding stopped
+    length-stopped : length (stopped (reasonNumber (e .reason)) (e .value) (e .word .0) l k) ≡ length l
+    unfolding stopped recorded
     length-stopped = by-cases (eqb (at l (k * stateWords + 1)) 0) (λ o. rw o (simp length-set)) (λ o. rw o (simp length-set))
 
-    at-stopped : (i : ℕ) → at (stopped (reasonNumber (e .reason)) (e .value) l k) i ≡ cond (owned i) (marked e (at l (k * stateWords + 1)) i (at l i)) (at l i)
-    unfolding stopped marked
+    at-stopped : (i : ℕ) → at (stopped (reasonNumber (e .reason)) (e .value) (e .word .0) l k) i ≡ cond (owned i) (marked e (at l (k * stateWords + 1)) i (at l i)) (at l i)
+    unfolding stopped recorded marked
     at-stopped i =
         by-cases (eqb (at l (k * stateWords + 1)) 0)
-        (λ o. rw o (simp (at-place stateWords 2 (omega arith), at-place stateWords 1 (omega arith), at-first stateWords (omega arith), length-set)
-        (word-cases i (λ g z d. rw (g, z, d)) (λ g z. rw (g, z)) (λ g z. rw (g, z)) (λ g. rw g))))
-        (λ o. rw o (simp (at-first stateWords (omega arith)) (word-cases i (λ g z d. rw (g, z, d)) (λ g z. rw (g, z)) (λ g z. rw (g, z)) (λ g. rw g))))
+        (λ o. rw o (simp (at-place stateWords 3 (omega arith), at-place stateWords 2 (omega arith), at-place stateWords 1 (omega arith), at-first stateWords (omega arith), length-set)
+        (word-cases i (λ g z d. rw (g, z, d)) (λ g z. rw (g, z)) (λ g z. rw (g, z)) (λ g z. rw (g, z)) (λ g. rw g))))
+        (λ o. rw o (simp (at-first stateWords (omega arith)) (word-cases i (λ g z d. rw (g, z, d)) (λ g z. rw (g, z)) (λ g z. rw (g, z)) (λ g z. rw (g, z)) (λ g. rw g))))
 
 module _ (v : List ℕ) (p : PeNumber) where
   abbrev other : ℕ → Bool
@@ -117,7 +120,7 @@ module _ (v : List ℕ) (p : PeNumber) (e : ErrorRecord) where
 
   module _ (l : List ℕ) where
     abbrev first : List ℕ
-    first = stopped (reasonNumber (e .reason)) (e .value) l (p .0)
+    first = stopped (reasonNumber (e .reason)) (e .value) (e .word .0) l (p .0)
 
     -- the record of a word's PE is that PE's
     row-of : (i : ℕ) → (i / stateWords * stateWords + 1) / stateWords ≡ i / stateWords

@@ -3,6 +3,7 @@ use endpoints::STATE_WORDS;
 use endpoints::is_listed;
 use kinds::answer::Reason;
 use kinds::answer::reason_number;
+use kinds::number::NO_WORD;
 use kinds::number::PeNumber;
 use kinds::outcome::ErrorRecord;
 use tables::words::put;
@@ -12,7 +13,7 @@ ghost use Prim.Native.Nat.{_+_, _*_, _^_, _<_};
 ghost use lib.ListN.{length};
 ghost use Rattle.profile.specs.Freeze.{froze};
 ghost use Rattle.profile.specs.Tables.{stateWords};
-ghost use Rattle.freeze.specs.Turn.{stopped, turned, listsNobody, peersStopped, endOf, frozeAll};
+ghost use Rattle.freeze.specs.Turn.{recorded, stopped, turned, listsNobody, peersStopped, endOf, frozeAll};
 
 // PE `pe` and every PE below N in `peers` are stopped, as one step. A freeze alone has a vector of zeros.
 pub fn freeze(state: &mut [u64], pes: u64, peers: [u64; 4], pe: PeNumber, error: ErrorRecord)
@@ -39,7 +40,8 @@ fn freeze_all(state: &mut [u64], peers: [u64; 4], pe: PeNumber, error: ErrorReco
 {
     let reason = error.reason;
     let number = reason_number(reason);
-    stop(state, pe.0 as usize, number, error.value);
+    let word = error.word;
+    stop(state, pe.0 as usize, number, error.value, word.0);
     if lists_nobody(peers) {
         return;
     }
@@ -67,7 +69,7 @@ fn stop_peers(state: &mut [u64], peers: [u64; 4], pe: PeNumber)
     ensures { λ _. ⌜ now (state .exit) ≡ peersStopped peers pe (now (state .entry)) ⌝ }
 {
     let mut k: usize = 0;
-    while k * STATE_WORDS + 2 < state.len() {
+    while k * STATE_WORDS + 3 < state.len() {
         let peer = is_listed(&peers, k);
         turn(state, k, peer, pe);
         k += 1;
@@ -85,22 +87,31 @@ fn turn(state: &mut [u64], k: usize, peer: bool, pe: PeNumber)
     if peer {
         if k != failing {
             let number = reason_number(Reason::FrozenAsPeer);
-            stop(state, k, number, failing as u64);
+            stop(state, k, number, failing as u64, NO_WORD.0);
         }
     }
 }
 
 // Both stop bits of PE k are set, the others stay, and its record is written if it is empty.
-fn stop(state: &mut [u64], k: usize, reason: u64, value: u64)
+fn stop(state: &mut [u64], k: usize, reason: u64, value: u64, failed: u64)
     requires { ⌜ k * stateWords < 2 ^ 62 ⌝ }
-    ensures { λ _. ⌜ now (state .exit) ≡ stopped reason value (now (state .entry)) k ⌝ }
+    ensures { λ _. ⌜ now (state .exit) ≡ stopped reason value failed (now (state .entry)) k ⌝ }
 {
     let first = k * STATE_WORDS;
     let bits = word(state, first);
     let recorded = word(state, first + 1);
     put(state, first, bits / 4 * 4 + 3);
     if recorded == 0 {
-        put(state, first + 1, reason);
-        put(state, first + 2, value);
+        record(state, first, reason, value, failed);
     }
+}
+
+// The error record of the PE whose words start at `first` is written.
+fn record(state: &mut [u64], first: usize, reason: u64, value: u64, failed: u64)
+    requires { ⌜ first < 2 ^ 62 ⌝ }
+    ensures { λ _. ⌜ now (state .exit) ≡ recorded reason value failed (now (state .entry)) first ⌝ }
+{
+    put(state, first + 1, reason);
+    put(state, first + 2, value);
+    put(state, first + 3, failed);
 }

@@ -8,7 +8,7 @@
 --     first, second       the two bridges: of `words 1` and of `words 2`
 --     list, other         two lists whose own requests are equal, and which differ in those of PEs 0 and 3 and of nobody
 --     tableWords          the words of a table of table code 1
---     pe n                the PE with number n; row w r v: the words of one PE in the state; places n k: the k numbers from n on
+--     pe n                the PE with number n; row w r v a: the words of one PE in the state; places n k: the k numbers from n on
 --     dma, load           requests in bare numbers; a DMA has 4 bytes
 --     opened-bridges      the names that a computation on them opens
 -- Assumes nothing.
@@ -42,8 +42,8 @@ unfoldable pub places : (start count : ℕ) → List ℕ
 places n zero = []
 places n (suc k) = n ∷ places (n + 1) k
 
-abbrev pub row : (stop reason value : ℕ) → List ℕ
-row w r v = w ∷ r ∷ v ∷ []
+abbrev pub row : (stop reason value word : ℕ) → List ℕ
+row w r v a = w ∷ r ∷ v ∷ a ∷ []
 
 abbrev pub pe : ℕ → PeNumber
 pe n = record { 0 = n }
@@ -53,7 +53,7 @@ abbrev outsider : Private → (pe : ℕ) → List ℕ
 outsider w p = map (w .state) (places (stopWord (pe p)) stateWords)
 
 abbrev insider : Private → (pe : ℕ) → List ℕ
-insider w p = row (w .state (stopWord (pe p)) * 4) 0 0
+insider w p = row (w .state (stopWord (pe p)) * 4) 0 0 0
 
 unfoldable pub tables : Private → Tables
 tables w = record {

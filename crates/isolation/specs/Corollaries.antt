@@ -9,7 +9,7 @@
 use mathlib.Core.Path.{_≡_, sym, ap₂, _∙_}
 use mathlib.Core.Bool.{Bool, false}
 use mathlib.Core.List.{List}
-use Rattle.kinds.specs.declared.answer.Answer.the-variants.{Refuse}
+use Rattle.kinds.specs.Answer.{refuse}
 use Rattle.kinds.specs.declared.answer.Reason.the-variants.{TableLength}
 use Rattle.kinds.specs.declared.number.PeNumber.{PeNumber}
 use Rattle.kinds.specs.declared.request.Request.{Request}
@@ -56,5 +56,5 @@ pub reason-one-both : (a b : Bridge) → Public a b → sized (a .tables .sizes)
 reason-one-both a b v = ap₂ sized (v .sizes) (v .all-lengths)
 
 pub reason-one : (a : Bridge) (q : Request) → sized (a .tables .sizes) (bridgeLengths a) ≡ false
-    → (answered (a .tables) (a .memory) (a .live) q ≡ Refuse TableLength 0) × (after (a .tables) (a .memory) (a .live) q ≡ a .live)
+    → (answered (a .tables) (a .memory) (a .live) q ≡ refuse TableLength) × (after (a .tables) (a .memory) (a .live) q ≡ a .live)
 reason-one a q o = (unsized-answered (a .tables) (a .memory) (a .live) q o, unsized-keeps (a .tables) (a .memory) (a .live) q o)

@@ -32,7 +32,7 @@ use Rattle.kinds.specs.declared.request.Direction.the-variants.{Read, Write}
 use Rattle.kinds.specs.declared.request.Request.{Request}
 use Rattle.kinds.specs.declared.request.Request.the-variants.{Error}
 use Rattle.profile.specs.Tables.{entryWords, peerWords, windowWords, segmentCount}
-use Rattle.profile.specs.Freeze.{stopWord, reasonWord, valueWord}
+use Rattle.profile.specs.Freeze.{stopWord, reasonWord, valueWord, failedWord}
 use Rattle.profile.specs.Entry.{entry}
 use Rattle.profile.specs.Msi.{interrupt}
 use Rattle.profile.specs.Opened.{opened}
@@ -45,7 +45,7 @@ pub data Premise : Type 0 where
   NotListed SameRequests SameN SameM SameR : Premise
   SameEntriesLength SameMemoryLength SameInterruptsLength SameStateLength : Premise
   SameRequesters SamePeers SameWindows SameSegments SameInterruptPe : Premise
-  SameServer SamePriority SameBits SameMmio SameDma SameReason SameValue : Premise
+  SameServer SamePriority SameBits SameMmio SameDma SameReason SameValue SameFailedWord : Premise
   SameFirstEntry SameSecondEntry SameTableWord : Premise
 
 abbrev sizes : (n m r : ℕ) → Sizes
@@ -85,6 +85,7 @@ module _ (G : PeNumber → Bool) (a b : Bridge) (l k : List Request) where
   Holds SameDma = OfMembers (λ x p. at (x .live .state) (stopWord p) / 2 % 2)
   Holds SameReason = OfMembers (λ x p. at (x .live .state) (reasonWord p))
   Holds SameValue = OfMembers (λ x p. at (x .live .state) (valueWord p))
+  Holds SameFailedWord = OfMembers (λ x p. at (x .live .state) (failedWord p))
   Holds SameFirstEntry = OfMembers (λ x p. entry (x .tables) p 0)
   Holds SameSecondEntry = OfMembers (λ x p. entry (x .tables) p 1)
   Holds SameTableWord = (n : ℕ) → Reads G (a .tables) (a .memory) n → at (a .memory) n ≡ at (b .memory) n
@@ -111,6 +112,7 @@ module _ (G : PeNumber → Bool) (a b : Bridge) (l k : List Request) where
   premises c v o SameDma = λ p g. let z = v .written .stop-bits p g in omega arith
   premises c v o SameReason = v .written .reason
   premises c v o SameValue = v .written .value
+  premises c v o SameFailedWord = v .written .failed
   premises c v o SameFirstEntry = λ p g. v .entries p g 0 (omega arith)
   premises c v o SameSecondEntry = λ p g. v .entries p g 1 (omega arith)
   premises c v o SameTableWord = v .table-words
@@ -143,6 +145,7 @@ module _ (G : PeNumber → Bool) (a b : Bridge) (l k : List Request) where
       stop-bits = λ p g. let m = h SameMmio p g in let d = h SameDma p g in omega arith;
       reason = h SameReason;
       value = h SameValue;
+      failed = h SameFailedWord;
       interrupts = λ i n g. rw (h SameInterruptPe i n, h SameServer i n g, h SamePriority i n g, h SameBits i n g);
     }
 
@@ -180,9 +183,10 @@ code SameMmio = 17
 code SameDma = 18
 code SameReason = 19
 code SameValue = 20
-code SameFirstEntry = 21
-code SameSecondEntry = 22
-code SameTableWord = 23
+code SameFailedWord = 21
+code SameFirstEntry = 22
+code SameSecondEntry = 23
+code SameTableWord = 24
 
 pub record Counterexample (x : Premise) : Type 0 where
   pub group : PeNumber → Bool
@@ -211,7 +215,7 @@ bridge d = record {
   };
   memory = 0 ∷ 0 ∷ 0 ∷ (0x12345003 + d SameTableWord) ∷ replicate (d SameMemoryLength) 0;
   live = record {
-    state = row 0 0 0 ++ (row (d SameMmio % 2 + 2 * d SameDma) (d SameReason) (d SameValue) ++ replicate (d SameStateLength) 0);
+    state = row 0 0 0 0 ++ (row (d SameMmio % 2 + 2 * d SameDma) (d SameReason) (d SameValue) (d SameFailedWord) ++ replicate (d SameStateLength) 0);
     interrupts = (1 + d SameInterruptPe) ∷ (5 + d SameServer) ∷ (6 + d SamePriority) ∷ d SameBits ∷ replicate (d SameInterruptsLength) 0;
   };
 }
@@ -292,6 +296,7 @@ module _ (a b : Bool) (d : Premise → ℕ) (l k : List Request) (c : d NotListe
   met SameDma e = members a b _ refl (omega arith)
   met SameReason e = members a b _ refl (rw e)
   met SameValue e = members a b _ refl (rw e)
+  met SameFailedWord e = members a b _ refl (rw e)
   met SameFirstEntry e = members a b _ refl (rw e)
   met SameSecondEntry e = members a b _ refl (rw e)
   met SameTableWord e = λ n r.
@@ -303,15 +308,16 @@ module _ (a b : Bool) (d : Premise → ℕ) (l k : List Request) (c : d NotListe
 -- the sum of all numbers of a list of answers
 total : List Answer → ℕ
 total [] = 0
-total (x ∷ l) = let n = numbered x in n .name + n .reason + n .value + n .words + n .pe + n .server + n .priority + total l
+total (x ∷ l) = let n = numbered x in n .name + n .reason + n .value + n .words + n .pe + n .server + n .priority + n .word + total l
 
 -- the same of the group's answers, and of the error record that a list leaves to PE p: by the claim they are equal
 shown : (PeNumber → Bool) → Bridge → List Request → (p : ℕ) → ℕ
-shown G a l p = total (answers G a l) + at (left a l .state) (reasonWord (pe p)) + at (left a l .state) (valueWord (pe p))
+shown G a l p =
+    total (answers G a l) + at (left a l .state) (reasonWord (pe p)) + at (left a l .state) (valueWord (pe p)) + at (left a l .state) (failedWord (pe p))
 
 shown-same : (G : PeNumber → Bool) (a b : Bridge) (l k : List Request) (p : ℕ) → G (pe p) ≡ true → Claim G a b l k → shown G a l p ≡ shown G b k p
 unfolding shown
-shown-same G a b l k p g c = rw (c .0, c .1 .reason (pe p) g, c .1 .value (pe p) g)
+shown-same G a b l k p g c = rw (c .0, c .1 .reason (pe p) g, c .1 .value (pe p) g, c .1 .failed (pe p) g)
 
 told : {x : Premise} (n : ℕ) (a b : Bool) (p : ℕ) (l k : List Request) → (changed x n NotListed ≡ 0 → b ≡ true)
     → (changed x n SameRequests ≡ 0 → own (group a b) (bridge unchanged) l ≡ own (group a b) (bridge (changed x n)) k)
@@ -384,9 +390,10 @@ needed SameBits = differs 2 false (signal ∷ []) refl refl refl
 -- PE 1 is MMIO stopped in the second, or DMA stopped
 needed SameMmio = differs 1 false (inSegment 1 ∷ []) refl refl refl
 needed SameDma = differs 1 false (read 1 ∷ []) refl refl refl
--- the error record is not empty in the second, so an error message does not write it; a read leaves the value as it was
+-- the error record is not empty in the second, so an error message does not write it; a read leaves value and table word as they were
 needed SameReason = differs 7 false (Error 1 ∷ []) refl refl refl
 needed SameValue = differs 7 false (read 1 ∷ []) refl refl refl
+needed SameFailedWord = differs 7 false (read 1 ∷ []) refl refl refl
 -- PE 1 has pages of 64 KiB in the second; its second entry, disabled in the first, is a bypass in the second
 needed SameFirstEntry = differs 4 false (read 1 ∷ []) refl refl refl
 needed SameSecondEntry = differs 1 false (dma 1 Read 0x800000000000000 0 ∷ []) refl refl refl

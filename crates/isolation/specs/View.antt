@@ -15,7 +15,7 @@ use Rattle.kinds.specs.Words.{at}
 use Rattle.kinds.specs.declared.number.PeNumber.{PeNumber}
 use Rattle.kinds.specs.declared.record.Lengths.{Lengths}
 use Rattle.profile.specs.Tables.{Tables, Live, lengths}
-use Rattle.profile.specs.Freeze.{stopWord, reasonWord, valueWord}
+use Rattle.profile.specs.Freeze.{stopWord, reasonWord, valueWord, failedWord}
 use Rattle.profile.specs.Entry.{entry}
 use Rattle.profile.specs.Msi.{interrupt}
 use Rattle.profile.specs.Agree.{interruptPe, Same, Alike, Reads, Held}
@@ -47,6 +47,7 @@ pub record Written (G : PeNumber → Bool) (n : ℕ) (s t : Live) : Type 0 where
   -- its error records
   pub reason : (p : PeNumber) → G p ≡ true → at (s .state) (reasonWord p) ≡ at (t .state) (reasonWord p)
   pub value : (p : PeNumber) → G p ≡ true → at (s .state) (valueWord p) ≡ at (t .state) (valueWord p)
+  pub failed : (p : PeNumber) → G p ≡ true → at (s .state) (failedWord p) ≡ at (t .state) (failedWord p)
   -- its interrupt records
   pub interrupts : (i : ℕ) → i < n → G (interruptPe s i) ≡ true → interrupt s i ≡ interrupt t i
 

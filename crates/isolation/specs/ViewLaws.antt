@@ -1,4 +1,5 @@
 -- What a group sees of two bridges is what the laws of one request are written in.
+--     state-word          what `Written` gives of a word of the state, by its place
 --     agreed, viewed      from `View` to `Agreed`, and back: they say the same
 --     written             what `Same` gives of the words that are written
 -- Assumes nothing.
@@ -16,7 +17,7 @@ use Rattle.kinds.specs.declared.record.Interrupt.{Interrupt}
 use Rattle.kinds.specs.declared.record.Lengths.{Lengths}
 use Rattle.kinds.specs.declared.record.TranslationEntry.{TranslationEntry}
 use Rattle.profile.specs.Tables.{Tables, Live, entryWords, recordWords, interruptWords, stateWords}
-use Rattle.profile.specs.Freeze.{stopWord, reasonWord, valueWord}
+use Rattle.profile.specs.Freeze.{stopWord, reasonWord, valueWord, failedWord}
 use Rattle.profile.specs.Entry.{entry}
 use Rattle.profile.specs.Msi.{interrupt}
 use Rattle.profile.specs.Agree.{peOf, seenWord, Same, Alike, Held}
@@ -26,14 +27,16 @@ use Rattle.isolation.specs.View.{Bridge, Public, Written, View, Agreed}
 -- ---- the words of the state, by PE and by place
 
 module _ {G : PeNumber → Bool} {n : ℕ} {s t : Live} where
-  state-word : Written G n s t → (i : ℕ) → G (peOf i) ≡ true → seenWord i (at (s .state) i) ≡ seenWord i (at (t .state) i)
+  pub state-word : Written G n s t → (i : ℕ) → G (peOf i) ≡ true → seenWord i (at (s .state) i) ≡ seenWord i (at (t .state) i)
   state-word w i g =
       by-cases (eqb (i % stateWords) 0)
       (λ o. let z = eqb-true (i % stateWords) 0 o in let e : stopWord (peOf i) ≡ i = omega arith in rw o (rw e at (w .stop-bits (peOf i) g)))
       (λ o. rw o (by-cases (eqb (i % stateWords) 1)
       (λ p. let z = eqb-true (i % stateWords) 1 p in let e : reasonWord (peOf i) ≡ i = omega arith in rw e at (w .reason (peOf i) g))
-      (λ p. let y = eqb-false (i % stateWords) 0 o in let z = eqb-false (i % stateWords) 1 p in
-      let e : valueWord (peOf i) ≡ i = omega arith in rw e at (w .value (peOf i) g))))
+      (λ p. by-cases (eqb (i % stateWords) 2)
+      (λ q. let z = eqb-true (i % stateWords) 2 q in let e : valueWord (peOf i) ≡ i = omega arith in rw e at (w .value (peOf i) g))
+      (λ q. let x = eqb-false (i % stateWords) 0 o in let y = eqb-false (i % stateWords) 1 p in let z = eqb-false (i % stateWords) 2 q in
+      let e : failedWord (peOf i) ≡ i = omega arith in rw e at (w .failed (peOf i) g)))))
 
   -- a word of PE p that is no stop word
   record-word : Same G n s t → (p : PeNumber) → G p ≡ true → (j : ℕ) → 0 < j → j < stateWords
@@ -47,6 +50,7 @@ module _ {G : PeNumber → Bool} {n : ℕ} {s t : Live} where
     stop-bits = stop-agrees r;
     reason = λ p g. record-word r p g 1 (omega arith) (omega arith);
     value = λ p g. record-word r p g 2 (omega arith) (omega arith);
+    failed = λ p g. record-word r p g 3 (omega arith) (omega arith);
     interrupts = interrupt-agrees r;
   }
 

@@ -19,6 +19,7 @@ use lib.Dec.{leb, eqb}
 use lib.ListN.{length, replicate, drop, List·getD-append, getD-replicate}
 use lib.Seq.{getD-set-other}
 use borrow.Author.Tests.{leb-true, eqb-true, eqb-false}
+use Rattle.kinds.specs.Answer.{refuse}
 use Rattle.kinds.specs.Tests.{by-cases, clash, and-right}
 use Rattle.kinds.specs.Words.{at}
 use Rattle.kinds.specs.declared.answer.Answer.{Answer}
@@ -165,6 +166,7 @@ module _ (w v : Private) (e : length (w .memory) ≡ length (v .memory)) where
     stop-bits = λ p u. member (p .0) u (λ e. rw e (omega arith)) (λ e. rw e (omega arith));
     reason = λ p u. member (p .0) u (λ e. rw e) (λ e. rw e);
     value = λ p u. member (p .0) u (λ e. rw e) (λ e. rw e);
+    failed = λ p u. member (p .0) u (λ e. rw e) (λ e. rw e);
     interrupts = interrupt-records;
   }
 
@@ -256,32 +258,32 @@ unfoldable pub pass : (address pe words : ℕ) → Answer
 pass a p n = Pass (record { 0 = a }) (pe p) n
 
 list-answers : replies (machine group (first .tables) (first .memory)) (first .live) list ≡
-    Done ∷ pass 0x9010 2 2 ∷ Refuse DmaStopped 0 ∷ Done ∷ pass 0x1110ABC 0 1 ∷ pass 0x1000000 1 0 ∷ Msi 0 1 1 ∷ Msi 1 5 6 ∷ Refuse UnknownRequester 0
-    ∷ Refuse BadRequest 0 ∷ Refuse BadEntry 0 ∷ Refuse TableWord 1 ∷ Ones 0xFFFFFFFF ∷ Done ∷ Done ∷ Refuse NoWindow 0 ∷ []
+    Done ∷ pass 0x9010 2 2 ∷ refuse DmaStopped ∷ Done ∷ pass 0x1110ABC 0 1 ∷ pass 0x1000000 1 0 ∷ Msi 0 1 1 ∷ Msi 1 5 6 ∷ refuse UnknownRequester
+    ∷ refuse BadRequest ∷ refuse BadEntry ∷ Refuse TableWord 1 (record { 0 = 0x20 }) ∷ Ones 0xFFFFFFFF ∷ Done ∷ Done ∷ refuse NoWindow ∷ []
 unfolding opened-bridges pass
 list-answers = refl
 
 other-answers : replies (machine group (second .tables) (second .memory)) (second .live) other ≡
-    pass 0x9010 2 2 ∷ pass 0x1000000 1 0 ∷ Refuse DmaStopped 0 ∷ Done ∷ pass 0x2223ABC 0 2 ∷ Msi 1 5 6 ∷ Refuse BadRequest 0 ∷ Done
-    ∷ Refuse BadRequest 0 ∷ Refuse TableWord 1 ∷ Ones 0xFFFFFFFF ∷ Done ∷ Done ∷ Done ∷ Done ∷ []
+    pass 0x9010 2 2 ∷ pass 0x1000000 1 0 ∷ refuse DmaStopped ∷ Done ∷ pass 0x2223ABC 0 2 ∷ Msi 1 5 6 ∷ refuse BadRequest ∷ Done
+    ∷ refuse BadRequest ∷ Refuse TableWord 1 (record { 0 = 0x20 }) ∷ Ones 0xFFFFFFFF ∷ Done ∷ Done ∷ Done ∷ Done ∷ []
 unfolding opened-bridges pass
 other-answers = refl
 
 -- what the group is answered, in both
 group-answers : answers group first list ≡
-    pass 0x9010 2 2 ∷ pass 0x1000000 1 0 ∷ Msi 1 5 6 ∷ Refuse BadRequest 0 ∷ Refuse TableWord 1 ∷ Ones 0xFFFFFFFF ∷ Done ∷ Done ∷ []
+    pass 0x9010 2 2 ∷ pass 0x1000000 1 0 ∷ Msi 1 5 6 ∷ refuse BadRequest ∷ Refuse TableWord 1 (record { 0 = 0x20 }) ∷ Ones 0xFFFFFFFF ∷ Done ∷ Done ∷ []
 unfolding opened-bridges pass
 group-answers = refl
 
 -- and what is left to it: the words of PEs 1 and 2 in the state, and their interrupts
 group-left : map (at (left first list .state)) (places (stopWord (pe 1)) (2 * stateWords))
     ++ map (at (left first list .interrupts)) (places interruptWords (2 * interruptWords)) ≡
-    row 4 0 0 ++ row 6 8 0x800000 ++ (1 ∷ 5 ∷ 6 ∷ 2 ∷ 2 ∷ 7 ∷ 8 ∷ 0 ∷ [])
+    row 4 0 0 0 ++ row 6 8 0x800000 0x20 ++ (1 ∷ 5 ∷ 6 ∷ 2 ∷ 2 ∷ 7 ∷ 8 ∷ 0 ∷ [])
 unfolding opened-bridges
 group-left = refl
 
 -- and to PEs 0 and 3: PE 3 has sent an error message, and PE 0 was frozen as its peer
-outside-left : map (at (left first list .state)) (places 0 stateWords ++ places (3 * stateWords) stateWords) ≡ row 3 13 3 ++ row 3 12 3
+outside-left : map (at (left first list .state)) (places 0 stateWords ++ places (3 * stateWords) stateWords) ≡ row 3 13 3 0 ++ row 3 12 3 0
 unfolding opened-bridges
 outside-left = refl
 

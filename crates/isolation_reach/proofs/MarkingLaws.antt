@@ -17,14 +17,14 @@ use Rattle.kinds.specs.Turns.{turns}
 use Rattle.kinds.specs.Words.{at}
 use Rattle.kinds.specs.declared.record.TranslationEntry.{TranslationEntry}
 use Rattle.profile.specs.Entry.{indexBits, aligned, tableGood, pagesGood, paged, mostTableCode, codeBits, offsetBits}
-use Rattle.profile.specs.WalkLaws.{paged-small}
+use Rattle.profile.specs.WalkLaws.{paged-walkable}
 use mir.Syntax.{w64}
 use mir.Val.{Fits}
 use Rattle.dma_pages.specs.Shape.{shapeOf}
 use Rattle.dma_pages.specs.declared.page_tables.Shape.{Shape}
 use Rattle.dma_pages.specs.declared.page_tables.Shape.the-variants.{Pages, Bad}
 use Rattle.kinds.specs.declared.number.PageSize.{PageSize}
-use Rattle.isolation_reach.specs.MarksLaws.{small-code, small-bits, paged-level, marks-zero, marks-suc}
+use Rattle.isolation_reach.specs.MarksLaws.{walkable-code, walkable-bits, paged-level, marks-zero, marks-suc}
 use Rattle.profile.specs.Walk.{leads}
 use Rattle.isolation_reach.specs.declared.marks.Gap.{Gap}
 use Rattle.isolation_reach.specs.Marks.{indexOf, firstOf, tableOf, leadsTo, within, markTurn, tableTurn, markedIn, tablesOver, tablesUnder, marksFrom, msiPage4k, msiPages4k, msiPage64k, msiPages64k, gapAt, gapOf, marksBy, marksWith}
@@ -195,10 +195,10 @@ module _ (e : TranslationEntry) {b : Bool} (asked : b ≡ paged e) (o : b ≡ tr
   has-pages = rw (← asked) o
 
   pub code-most : e .table ≤ mostTableCode
-  code-most = small-code e (paged-small e has-pages)
+  code-most = walkable-code e (paged-walkable e has-pages)
 
   pub all-bits : indexBits e * e .levels ≤ offsetBits
-  all-bits = small-bits e (paged-small e has-pages)
+  all-bits = walkable-bits e (paged-walkable e has-pages)
 
   pub bits-fit : Fits w64 (e .table + codeBits)
   bits-fit = omega (arith, code-most)

@@ -1,6 +1,6 @@
 -- The marks of one level more, as a loop makes them, and what a good entry with pages says.
 --     marks-zero, marks-suc   the last level, and one that has levels below it
---     small-code, small-bits  the ranges of an entry whose table can be walked
+--     walkable-code, walkable-bits  the ranges of an entry whose table can be walked
 --     paged-code, paged-level, paged-aligned, paged-span   those of a good entry with pages
 -- Assumes nothing.
 use mathlib.Core.Path.{_≡_, refl}
@@ -14,7 +14,7 @@ use lib.ListN.{length}
 use borrow.Author.Tests.{leb-true, eqb-true}
 use Rattle.kinds.specs.Tests.{and-left, and-right, all-true}
 use Rattle.kinds.specs.declared.record.TranslationEntry.{TranslationEntry}
-use Rattle.profile.specs.Entry.{indexBits, span, aligned, tableGood, bypass, pageTests, pagesGood, paged, small, smallTests, mostTableCode, offsetBits}
+use Rattle.profile.specs.Entry.{indexBits, span, aligned, tableGood, bypass, pageTests, pagesGood, paged, walkable, walkableTests, mostTableCode, offsetBits}
 use Rattle.isolation_reach.specs.Marks.{indexOf, leadsTo, markedIn, tablesUnder, marksFrom}
 
 module _ (m : List ℕ) (n q c : ℕ) where
@@ -31,13 +31,13 @@ module _ (m : List ℕ) (n q c : ℕ) where
 
 -- ---- the ranges of an entry with pages
 
-pub small-code : (e : TranslationEntry) → small e ≡ true → e .table ≤ mostTableCode
-unfolding small
-small-code e h = leb-true (e .table) mostTableCode (all-true (smallTests e) 0 h)
+pub walkable-code : (e : TranslationEntry) → walkable e ≡ true → e .table ≤ mostTableCode
+unfolding walkable
+walkable-code e h = leb-true (e .table) mostTableCode (all-true (walkableTests e) 0 h)
 
-pub small-bits : (e : TranslationEntry) → small e ≡ true → indexBits e * e .levels ≤ offsetBits
-unfolding small
-small-bits e h = leb-true (indexBits e * e .levels) offsetBits (all-true (smallTests e) 2 h)
+pub walkable-bits : (e : TranslationEntry) → walkable e ≡ true → indexBits e * e .levels ≤ offsetBits
+unfolding walkable
+walkable-bits e h = leb-true (indexBits e * e .levels) offsetBits (all-true (walkableTests e) 2 h)
 
 module _ (e : TranslationEntry) (h : paged e ≡ true) where
   pages-good : pagesGood e ≡ true

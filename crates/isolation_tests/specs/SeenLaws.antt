@@ -84,6 +84,7 @@ module _ (g t : List ℕ) (a b : Bridge) (s : SeenAlike g t a b) where
     stop-bits = λ p m. rw (add-zero, eq-eqb (p .0 * stateWords % stateWords) 0 (omega arith)) at (state-word p m 0 (omega arith));
     reason = λ p m. rw (ne-eqb ((p .0 * stateWords + 1) % stateWords) 0 (omega arith)) at (state-word p m 1 (omega arith));
     value = λ p m. rw (ne-eqb ((p .0 * stateWords + 2) % stateWords) 0 (omega arith)) at (state-word p m 2 (omega arith));
+    failed = λ p m. rw (ne-eqb ((p .0 * stateWords + 3) % stateWords) 0 (omega arith)) at (state-word p m 3 (omega arith));
     interrupts = λ i h m. rw (pe-word i, interrupt-word i m 1 (omega arith), interrupt-word i m 2 (omega arith), interrupt-word i m 3 (omega arith));
   }
 

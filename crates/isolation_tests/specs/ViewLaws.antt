@@ -21,6 +21,7 @@ use Rattle.profile.specs.Agree.{seenWord}
 use Rattle.profile.specs.Entry.{entryIn}
 use Rattle.profile.specs.Tables.{entryWords, recordWords, interruptWords, stateWords}
 use Rattle.isolation.specs.View.{Bridge, View}
+use Rattle.isolation.specs.ViewLaws.{state-word}
 use Rattle.isolation_groups.specs.Member.{memberOf, group}
 use Rattle.isolation_reach.specs.Footprint.{Exact}
 use Rattle.isolation_tests.specs.Seen.{interruptSeen, seen}
@@ -43,20 +44,7 @@ module _ (g t : List ℕ) (a b : Bridge) (v : View (group g) a b) where
       rw e at (entry-word (a .tables .entries) (b .tables .entries) p (i / recordWords % 2) (v .entries p m (i / recordWords % 2) (omega arith)) (i % recordWords) (omega arith))
 
   state-seen : (i : ℕ) → memberOf g (i / stateWords) ≡ true → seenWord i (at (a .live .state) i) ≡ seenWord i (at (b .live .state) i)
-  state-seen i m =
-      let p : PeNumber = record { 0 = i / stateWords } in
-      by-cases (eqb (i % stateWords) 0)
-      (λ o. let z = eqb-true (i % stateWords) 0 o in
-      let e : i / stateWords * stateWords ≡ i = omega arith in
-      rw o (rw e at (v .written .stop-bits p m)))
-      (λ o. let z = eqb-false (i % stateWords) 0 o in
-      by-cases (eqb (i % stateWords) 1)
-      (λ q. let y = eqb-true (i % stateWords) 1 q in
-      let e : i / stateWords * stateWords + 1 ≡ i = omega arith in
-      rw o (rw e at (v .written .reason p m)))
-      (λ q. let y = eqb-false (i % stateWords) 1 q in
-      let e : i / stateWords * stateWords + 2 ≡ i = omega arith in
-      rw o (rw e at (v .written .value p m))))
+  state-seen i m = state-word (v .written) i m
 
   same-length : length (a .live .interrupts) ≡ length (b .live .interrupts)
   same-length = ap (λ (x : Lengths). x .interrupts) (v .public .all-lengths)

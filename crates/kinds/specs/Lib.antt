@@ -2,6 +2,7 @@ pub mod Answer
 pub mod AnswerCases
 pub mod Checked
 pub mod Number
+pub mod NumberCases
 pub mod NumberLaws
 pub mod Outcome
 pub mod Powers

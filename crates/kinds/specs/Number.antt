@@ -1,7 +1,10 @@
--- Pages and bytes: the ways from one kind of number to another.
+-- Pages, words of memory and bytes: the ways from one kind of number to another.
 --     pageBits s          the address bits inside a page of size s
 --     pageNumber s a      the page that byte address a lies in
 --     byteAddress s p a   the byte address in page p at the offset that a has in its own page
+--     wordBytes           the bytes of a word of memory
+--     wordAddress k       the byte address of word k of memory
+--     noWord              the address that stands where no word of memory is named
 -- Assumes nothing.
 use Prim.Native.Nat.{ℕ, _+_, _*_, _/_, _%_, _^_}
 use Rattle.kinds.specs.declared.number.ByteAddress.{ByteAddress}
@@ -20,3 +23,12 @@ pageNumber s a = record { 0 = a .0 / 2 ^ pageBits s }
 
 abbrev pub byteAddress : PageSize → PageNumber → ByteAddress → ByteAddress
 byteAddress s p a = record { 0 = p .0 * 2 ^ pageBits s + a .0 % 2 ^ pageBits s }
+
+abbrev pub wordBytes : ℕ
+wordBytes = 8
+
+abbrev pub wordAddress : ℕ → ByteAddress
+wordAddress k = record { 0 = k * wordBytes }
+
+abbrev pub noWord : ByteAddress
+noWord = record { 0 = 0 }

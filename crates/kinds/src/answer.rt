@@ -23,7 +23,8 @@ pub enum Reason {
     OutsideMemory,
 }
 
-// `Ones` and `Drop` are the load and the store of an MMIO stopped PE.
+// `Ones` and `Drop` are the load and the store of an MMIO stopped PE. A refusal has the count of table words read, and the address of the table word
+// that failed, 0 where none did.
 pub enum Answer {
     Pass {
         address: ByteAddress,
@@ -45,6 +46,7 @@ pub enum Answer {
     Refuse {
         reason: Reason,
         words: u64,
+        word: ByteAddress,
     },
     Done,
 }
@@ -58,6 +60,7 @@ pub struct Numbers {
     pub pe: u64,
     pub server: u64,
     pub priority: u64,
+    pub word: u64,
 }
 
 pub fn reason_number(reason: Reason) -> u64
@@ -94,6 +97,7 @@ pub fn in_numbers(answer: Answer) -> Numbers
             pe: pe.0 as u64,
             server: 0,
             priority: 0,
+            word: 0,
         },
         Answer::Msi {
             number,
@@ -107,18 +111,32 @@ pub fn in_numbers(answer: Answer) -> Numbers
             pe: 0,
             server,
             priority,
+            word: 0,
         },
         Answer::Held { number } => plain(2, 0, number, 0),
         Answer::Ones { value } => plain(3, 11, value, 0),
         Answer::Drop => plain(4, 11, 0, 0),
-        Answer::Refuse { reason, words } => plain(5, reason_number(reason), 0, words),
+        Answer::Refuse {
+            reason,
+            words,
+            word,
+        } => Numbers {
+            name: 5,
+            reason: reason_number(reason),
+            value: 0,
+            words,
+            pe: 0,
+            server: 0,
+            priority: 0,
+            word: word.0,
+        },
         Answer::Done => plain(6, 0, 0, 0),
     }
 }
 
-// An answer that names no PE, server or priority.
+// An answer that names no PE, server, priority or table word.
 fn plain(name: u64, reason: u64, value: u64, words: u64) -> Numbers
-    ensures { λ r. ⌜ r ≡ record { name = name; reason = reason; value = value; words = words; pe = 0; server = 0; priority = 0 } ⌝ }
+    ensures { λ r. ⌜ r ≡ record { name = name; reason = reason; value = value; words = words; pe = 0; server = 0; priority = 0; word = 0 } ⌝ }
 {
     Numbers {
         name,
@@ -128,5 +146,6 @@ fn plain(name: u64, reason: u64, value: u64, words: u64) -> Numbers
         pe: 0,
         server: 0,
         priority: 0,
+        word: 0,
     }
 }

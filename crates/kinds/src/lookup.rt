@@ -15,17 +15,17 @@ pub enum Hit {
     Miss,
 }
 
-// What a walk ends in: the last table word and its number in memory, or the number of the memory word that stopped it, which forbids or is outside
+// What a walk ends in: the address and the content of the last table word, or the address of the word that stopped it, which forbids or is outside
 // memory.
 pub enum Found {
-    Frame { place: u64, word: u64 },
-    Forbidden { place: u64 },
-    Outside { place: u64 },
+    Frame { word: ByteAddress, content: u64 },
+    Forbidden { word: ByteAddress },
+    Outside { word: ByteAddress },
 }
 
-// What a translation gives: the system address, or a fault with its reason and the number of the memory word that it stopped at, 0 where no word
+// What a translation gives: the system address, or a fault with its reason and the address of the table word that it stopped at, 0 where no word
 // was asked for.
 pub enum Translated {
     To(ByteAddress),
-    Fault { reason: Reason, place: u64 },
+    Fault { reason: Reason, word: ByteAddress },
 }

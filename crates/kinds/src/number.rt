@@ -3,6 +3,9 @@
 // An address that counts bytes: on the PCI side or in system memory.
 pub struct ByteAddress(pub u64);
 
+// The address that stands where no word of memory is named.
+pub const NO_WORD: ByteAddress = ByteAddress(0);
+
 // An address that counts pages of one size.
 pub struct PageNumber(pub u64);
 

@@ -1,15 +1,17 @@
 // The outcome of a request: its answer, and what is done to the tables. An effect names no PE: it is done at the PE that owns the request.
 use crate::answer::Answer;
 use crate::answer::Reason;
+use crate::number::ByteAddress;
 use crate::number::PeNumber;
 use crate::record::TranslationEntry;
 use crate::request::DmaRequest;
 use crate::request::Part;
 
-// What a freeze writes into an empty error record.
+// What a freeze writes into an empty error record; `word` is the address of the table word that failed, 0 where none did.
 pub struct ErrorRecord {
     pub reason: Reason,
     pub value: u64,
+    pub word: ByteAddress,
 }
 
 pub enum Effect {

@@ -11,6 +11,7 @@ use mir.Val.{Fits}
 use mir.Syntax.{w64}
 use lib.Dec.{eqb, ltb}
 use borrow.Author.Tests.{eq-eqb, ne-eqb, ltb-true}
+use Rattle.kinds.specs.Number.{noWord}
 use Rattle.kinds.specs.Outcome.{failed}
 use Rattle.kinds.specs.Tests.{and-right}
 use Rattle.kinds.specs.declared.answer.Answer.the-variants.{Msi, Held}
@@ -55,6 +56,6 @@ module _ {b : Bool} {r : Outcome} (e : Interrupt) (q : b ≡ ranged e) where
     unfolding delivered
     delivers h f = rw (eq-eqb (e .pe) (p .0) own, ← q, h) f
 
-    pub refuses : b ≡ false → r ≡ failed MsiRefused a 0 → r ≡ delivered p a i e
+    pub refuses : b ≡ false → r ≡ failed MsiRefused a 0 noWord → r ≡ delivered p a i e
     unfolding delivered
     refuses h f = rw (eq-eqb (e .pe) (p .0) own, ← q, h) f

@@ -7,6 +7,7 @@ use interrupts::in_range;
 use kinds::answer::Answer;
 use kinds::answer::Reason;
 use kinds::number::ByteAddress;
+use kinds::number::NO_WORD;
 use kinds::number::PeNumber;
 use kinds::outcome::Effect;
 use kinds::outcome::Outcome;
@@ -18,6 +19,7 @@ ghost use mathlib.Core.Path.{_≡_};
 ghost use Prim.Native.Nat.{_%_};
 ghost use lib.Bits.{bitOr};
 ghost use Rattle.kinds.specs.declared.answer.Reason.the-variants.{MsiRefused};
+ghost use Rattle.kinds.specs.Number.{noWord};
 ghost use Rattle.kinds.specs.Outcome.{failed};
 ghost use Rattle.profile.specs.Msi.{number32, number64, isWrite, msiFormed, presents, arrives, delivered};
 
@@ -105,9 +107,9 @@ pub fn arrive(number: u64, interrupt: Interrupt) -> Outcome
 }
 
 fn msi_refused(address: ByteAddress) -> Outcome
-    ensures { λ r. ⌜ r ≡ failed MsiRefused address 0 ⌝ }
+    ensures { λ r. ⌜ r ≡ failed MsiRefused address 0 noWord ⌝ }
 {
-    outcomes::failed(Reason::MsiRefused, address, 0)
+    outcomes::failed(Reason::MsiRefused, address, 0, NO_WORD)
 }
 
 // An MSI of a PE, with its number and the words of that interrupt.

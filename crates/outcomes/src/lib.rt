@@ -2,6 +2,7 @@
 use kinds::answer::Answer;
 use kinds::answer::Reason;
 use kinds::number::ByteAddress;
+use kinds::number::NO_WORD;
 use kinds::number::PeNumber;
 use kinds::outcome::Check;
 use kinds::outcome::Effect;
@@ -11,9 +12,9 @@ use kinds::record::TranslationEntry;
 use kinds::request::Direction;
 use kinds::request::DmaRequest;
 ghost use mathlib.Core.Path.{_≡_};
+ghost use Rattle.kinds.specs.Answer.{refuse};
 ghost use Rattle.kinds.specs.Checked.{shown, Kept, Ready, Walk};
 ghost use Rattle.kinds.specs.Outcome as spec;
-ghost use Rattle.kinds.specs.declared.answer.Answer.the-variants.{Refuse};
 
 // A pass: nothing is changed.
 pub fn passed(pe: PeNumber, address: ByteAddress, words: u64) -> Outcome
@@ -30,21 +31,30 @@ pub fn refused(reason: Reason) -> Outcome
     ensures { λ r. ⌜ r ≡ spec.refused reason ⌝ }
 {
     Outcome {
-        answer: Answer::Refuse { reason, words: 0 },
+        answer: Answer::Refuse {
+            reason,
+            words: 0,
+            word: NO_WORD,
+        },
         effect: Effect::Keep,
     }
 }
 
-// A refusal that freezes the PE, alone.
-pub fn failed(reason: Reason, address: ByteAddress, words: u64) -> Outcome
-    ensures { λ r. ⌜ r ≡ spec.failed reason address words ⌝ }
+// A refusal that freezes the PE, alone; `word` is the address of the table word that failed.
+pub fn failed(reason: Reason, address: ByteAddress, words: u64, word: ByteAddress) -> Outcome
+    ensures { λ r. ⌜ r ≡ spec.failed reason address words word ⌝ }
 {
     let error = ErrorRecord {
         reason,
         value: address.0,
+        word,
     };
     Outcome {
-        answer: Answer::Refuse { reason, words },
+        answer: Answer::Refuse {
+            reason,
+            words,
+            word,
+        },
         effect: Effect::Freeze {
             error,
             peers: false,
@@ -128,7 +138,12 @@ pub fn walk(pe: PeNumber, entry: TranslationEntry, dma: DmaRequest) -> Check
 
 // A request that is refused with no table word read.
 pub fn refuse(reason: Reason) -> Check
-    ensures { λ r. ⌜ r ≡ shown (Kept (Refuse reason 0)) ⌝ }
+    ensures { λ r. ⌜ r ≡ shown (Kept (refuse reason)) ⌝ }
 {
-    kept(Answer::Refuse { reason, words: 0 })
+    let words = 0;
+    kept(Answer::Refuse {
+        reason,
+        words,
+        word: NO_WORD,
+    })
 }

@@ -6,8 +6,8 @@
 use mathlib.Core.Path.{_≡_, refl, sym, ap, _∙_}
 use mathlib.Core.List.{List}
 use Prim.Native.Nat.{ℕ}
+use Rattle.kinds.specs.Answer.{refuse}
 use Rattle.kinds.specs.Checked.{Checked, Kept, shown}
-use Rattle.kinds.specs.declared.answer.Answer.the-variants.{Refuse}
 use Rattle.kinds.specs.declared.answer.Reason.{Reason}
 use Rattle.kinds.specs.declared.lookup.Owner.{Owner}
 use Rattle.kinds.specs.declared.lookup.Owner.the-variants.{Of, Nobody}
@@ -35,6 +35,6 @@ module _ (k : PeNumber → Checked) (o : Owner) {i : Owner} (found : i ≡ o) wh
   unfolding byOwner
   of-pe e h = rw (← found, e) h
 
-  pub of-nobody : {r : Reason} {x : Check} → i ≡ Nobody r → x ≡ shown (Kept (Refuse r 0)) → x ≡ shown (byOwner k o)
+  pub of-nobody : {r : Reason} {x : Check} → i ≡ Nobody r → x ≡ shown (Kept (refuse r)) → x ≡ shown (byOwner k o)
   unfolding byOwner
   of-nobody e h = rw (← found, e) h

@@ -26,7 +26,7 @@ use Rattle.kinds.specs.declared.outcome.ErrorRecord.{ErrorRecord}
 use Rattle.kinds.specs.declared.request.Part.{Part}
 use Rattle.kinds.specs.declared.request.Part.the-variants.{Mmio, Dma, Record}
 use Rattle.profile.specs.Tables.{Live, interruptWords, stateWords}
-use Rattle.profile.specs.Freeze.{stopWord, reasonWord, valueWord, vectorIn, noPeers, taken, asPeer, marked, frozen, ofPes, froze, released}
+use Rattle.profile.specs.Freeze.{stopWord, reasonWord, valueWord, failedWord, vectorIn, noPeers, taken, asPeer, marked, frozen, ofPes, froze, released}
 use Rattle.profile.specs.Msi.{interrupt}
 use Rattle.profile.specs.Step.{act}
 use Rattle.profile.specs.Agree.{peOf, seenWord, interruptPe, Same}
@@ -155,8 +155,11 @@ module _ {G : PeNumber → Bool} (n : ℕ) (v : List ℕ) (p : PeNumber) (out : 
     released-unseen Dma =
         stateStored-unseen (stopWord p) (at (s .state) (stopWord p) / 4 * 4 + at (s .state) (stopWord p) % 2) (own-word (stopWord p) (omega arith)) s
     released-unseen Record =
+        let one = stateStored (reasonWord p) 0 s in
+        let two = stateStored (valueWord p) 0 one in
         same-trans (stateStored-unseen (reasonWord p) 0 (own-word (reasonWord p) (omega arith)) s)
-        (stateStored-unseen (valueWord p) 0 (own-word (valueWord p) (omega arith)) (stateStored (reasonWord p) 0 s))
+        (same-trans (stateStored-unseen (valueWord p) 0 (own-word (valueWord p) (omega arith)) one)
+        (stateStored-unseen (failedWord p) 0 (own-word (failedWord p) (omega arith)) two))
 
     pub act-unseen : (e : Effect) → Same G k s (act n v p e s)
     unfolding act
@@ -213,7 +216,8 @@ module _ {G : PeNumber → Bool} {n : ℕ} {s t : Live} (r : Same G n s t) where
   released-agrees Dma p u =
       stateStored-agrees r (stopWord p) (at (s .state) (stopWord p) / 4 * 4 + at (s .state) (stopWord p) % 2) (at (t .state) (stopWord p) / 4 * 4 + at (t .state) (stopWord p) % 2)
       (rw (eq-eqb (stopWord p % stateWords) 0 (omega arith)) (omega (arith, stop-agrees r p u)))
-  released-agrees Record p u = stateStored-agrees (stateStored-agrees r (reasonWord p) 0 0 refl) (valueWord p) 0 0 refl
+  released-agrees Record p u =
+      stateStored-agrees (stateStored-agrees (stateStored-agrees r (reasonWord p) 0 0 refl) (valueWord p) 0 0 refl) (failedWord p) 0 0 refl
 
   -- an interrupt's PE is not public from n on, and what is written there is not seen
   interrupt-written : (k : ℕ) (w : List ℕ) (p : PeNumber) (i v b : ℕ) → Same G n (act k w p (Interrupt i v b) s) (act k w p (Interrupt i v b) t)
@@ -258,7 +262,9 @@ module _ (n : ℕ) (v : List ℕ) (p : PeNumber) (s : Live) (i : ℕ) (away : ¬
   unfolding released
   released-other Mmio l = set-other (stopWord p) _ l (omega arith)
   released-other Dma l = set-other (stopWord p) _ l (omega arith)
-  released-other Record l = set-other (valueWord p) 0 (set l (reasonWord p) 0) (omega arith) ∙ set-other (reasonWord p) 0 l (omega arith)
+  released-other Record l =
+      set-other (failedWord p) 0 (set (set l (reasonWord p) 0) (valueWord p) 0) (omega arith)
+      ∙ set-other (valueWord p) 0 (set l (reasonWord p) 0) (omega arith) ∙ set-other (reasonWord p) 0 l (omega arith)
 
   pub act-others : (e : Effect) → takes e ≡ false → at (act n v p e s .state) i ≡ at (s .state) i
   unfolding act

@@ -1,20 +1,25 @@
--- Laws of all answers: reasons 12 and 13 are for error records only, a refusal stops no PE but its own, and reason 1 is for every request alike.
+-- Laws of all answers: reasons 12 and 13 are for error records only, 8 and 15 alone name a table word, a refusal stops no PE but its own, and reason 1
+-- is for every request alike.
 --     shown a             answer a carries neither number 12 nor 13
 --     answered-shown      no answer carries them, on any tables
---     fits a x            effect x goes with answer a: a freeze takes peers where its reason is 12 and the answer has none; else its reason is the answer's
---     decided-fits        so, with answered-shown, WHETHER PEERS ARE TAKEN follows from the reason, on any tables
+--     worded a            answer a names a table word under 8 and 15 alone
+--     answered-worded     so does every answer, on any tables
+--     fits a x            effect x goes with answer a: a freeze takes peers where its reason is 12 and the answer has none; else its reason is the
+--                         answer's. Its record names the table word that the answer names
+--     decided-fits        so, with answered-shown, WHETHER PEERS ARE TAKEN follows from the reason, on any tables, and the record's TABLE WORD is the
+--                         answer's
 --     refused-others      a request that is answered with a reason leaves every word of the state of each PE but its owner
 --     unsized-answered    on tables that 01's table of lengths does not allow every answer is reason 1, with no word read
 --     unsized-keeps       and nothing changes
 -- Assumes nothing.
 use mathlib.Core.Path.{_≡_, refl, ap, _∙_}
-use mathlib.Core.Bool.{Bool, true, false, cond, not, _&&_}
+use mathlib.Core.Bool.{Bool, true, false, cond, not, _&&_, _||_}
 use mathlib.Core.List.{List}
 use Prim.Native.Nat.{ℕ, _*_, _/_, _%_}
 use lib.Dec.{ltb, eqb}
 use lib.ListN.{length}
 use borrow.Author.Tests.{eq-eqb}
-use Rattle.kinds.specs.Answer.{reasonNumber, numbered}
+use Rattle.kinds.specs.Answer.{reasonNumber, numbered, refuse}
 use Rattle.kinds.specs.Checked.{Checked, Kept, Ready, Walk}
 use Rattle.kinds.specs.Tests.{clash, and-left, and-right}
 use Rattle.kinds.specs.Words.{at}
@@ -49,7 +54,7 @@ use Rattle.profile.specs.Tables.{Tables, Live, lengths, sized, named}
 use Rattle.profile.specs.Freeze.{stopWord, mmioStopped, dmaStopped}
 use Rattle.profile.specs.Entry.{classOf, half, offset, entryIn, pageSize, pageOf, tableGood, bypass, bypassGood, pagesGood, inBypass, walks, unwalked}
 use Rattle.profile.specs.Walk.{allows, landed, walkedPage, byPages}
-use Rattle.profile.specs.Msi.{holding, interruptIn, interrupt, ranged, number32, number64, msiFormed, presents, announced, delivered, msi}
+use Rattle.profile.specs.Msi.{holding, interruptIn, interrupt, ranged, presents, announced, delivered, msi}
 use Rattle.profile.specs.Firmware.{onGood, ends, prioritized}
 use Rattle.profile.specs.Windows.{route, onesOf}
 use Rattle.profile.specs.Step.{formed, outcomeOf, byEntry, served, dmaAsked, accessed, ask, asked, checked, finish, act, actBy, decided, answered, after}
@@ -60,42 +65,49 @@ use Rattle.profile.specs.Owner.{ofRequester, ofInterrupt, ofHit, ownerIn
 unfoldable pub shown : Answer → Bool
 shown a = not (eqb (numbered a .reason) 12) && not (eqb (numbered a .reason) 13)
 
+unfoldable pub worded : Answer → Bool
+worded a = eqb (numbered a .reason) 8 || eqb (numbered a .reason) 15 || eqb (numbered a .word) 0
+
+unfoldable told : Answer → Bool
+told a = shown a && worded a
+
 abbrev pub fits : Answer → Effect → Bool
 fits a Keep = true
 fits a (Freeze e b) =
-    cond b (eqb (reasonNumber (e .reason)) 12 && eqb (numbered a .reason) 0) (eqb (reasonNumber (e .reason)) (numbered a .reason))
+    eqb (e .word .0) (numbered a .word)
+    && cond b (eqb (reasonNumber (e .reason)) 12 && eqb (numbered a .reason) 0) (eqb (reasonNumber (e .reason)) (numbered a .reason))
 fits a (Release c) = true
 fits a (Interrupt i n b) = true
 
 -- the answers that an outcome, what was checked, a translation, or an owner stands for
 abbrev outcomeShown : Outcome → Bool
-outcomeShown o = fits (o .answer) (o .effect) && shown (o .answer)
+outcomeShown o = fits (o .answer) (o .effect) && told (o .answer)
 
 abbrev checkedShown : Checked → Bool
-checkedShown (Kept a) = shown a
+checkedShown (Kept a) = told a
 checkedShown (Ready p o) = outcomeShown o
 checkedShown (Walk p e q) = true
 
 abbrev translatedShown : Translated → Bool
 translatedShown (To a) = true
-translatedShown (Fault r j) = shown (Refuse r 0)
+translatedShown (Fault r w) = told (Refuse r 0 w)
 
 abbrev ownerShown : Owner → Bool
 ownerShown (Of p) = true
-ownerShown (Nobody r) = shown (Refuse r 0)
+ownerShown (Nobody r) = told (refuse r)
 
 either : {A : Type 0} (P : A → Bool) (b : Bool) {x y : A} → P x ≡ true → P y ≡ true → P (cond b x y) ≡ true
 either P true p q = p
 either P false p q = q
 
 landed-shown : (z : PageSize) (d : Direction) (o : ByteAddress) (w : Found) → translatedShown (landed z d o w) ≡ true
-unfolding landed shown
+unfolding landed told shown worded
 landed-shown z d o (Frame j w) = either translatedShown (allows d w) refl refl
 landed-shown z d o (Forbidden j) = refl
 landed-shown z d o (Outside j) = refl
 
 unwalked-shown : (e : TranslationEntry) (o : ByteAddress) → translatedShown (unwalked e o) ≡ true
-unfolding unwalked shown
+unfolding unwalked told shown worded
 unwalked-shown e o =
     either translatedShown (tableGood e)
     (either translatedShown (bypass e)
@@ -107,44 +119,44 @@ pages-shown : (m : List ℕ) (e : TranslationEntry) (d : Direction) (o : ByteAdd
 unfolding byPages
 pages-shown m e d o = landed-shown (pageSize e) d o (walkedPage m e (pageOf e o) .found)
 
--- a refusal carries the reason of the fault, whatever the count
+-- a refusal carries reason and word of the fault, whatever the count, and so does the record
 outcomeOf-shown : (p : PeNumber) (a : ByteAddress) (t : Translated) (n : ℕ) → translatedShown t ≡ true → outcomeShown (outcomeOf p a t n) ≡ true
-unfolding outcomeOf shown
+unfolding outcomeOf told shown worded
 outcomeOf-shown p a (To x) n h = refl
-outcomeOf-shown p a (Fault r j) n h = rw (h, eq-eqb (reasonNumber r) (reasonNumber r) refl)
+outcomeOf-shown p a (Fault r w) n h = rw (h, eq-eqb (reasonNumber r) (reasonNumber r) refl, eq-eqb (w .0) (w .0) refl)
 
-announced-shown : (i v p b : ℕ) → shown (announced i v p b) ≡ true
-unfolding announced shown
-announced-shown i v p b = either shown (presents p b) refl refl
+announced-shown : (i v p b : ℕ) → told (announced i v p b) ≡ true
+unfolding announced told shown worded
+announced-shown i v p b = either told (presents p b) refl refl
 
 delivered-shown : (p : PeNumber) (a : ByteAddress) (i : ℕ) (e : interrupts.Interrupt) → outcomeShown (delivered p a i e) ≡ true
-unfolding delivered shown
+unfolding delivered told shown worded
 delivered-shown p a i e =
     either outcomeShown (eqb (e .pe) (p .0))
     (either outcomeShown (ranged e) (announced-shown i (e .server) (e .priority) (e .bits)) refl) refl
 
 msi-shown : (c : ℕ) (l : List ℕ) (p : PeNumber) (a : ByteAddress) (i : ℕ) (ok : Bool) → outcomeShown (msi c l p a i ok) ≡ true
-unfolding msi shown
+unfolding msi told shown worded
 msi-shown c l p a i ok = either outcomeShown (ok && ltb i c) (delivered-shown p a i (interruptIn l i)) refl
 
 ends-shown : (i : ℕ) (e : interrupts.Interrupt) → outcomeShown (ends i e) ≡ true
-unfolding ends shown
+unfolding ends told shown worded
 ends-shown i e =
     either outcomeShown (ltb (e .bits) 2) refl
     (either outcomeShown (eqb (e .bits) 2) refl (either outcomeShown (eqb (e .priority) holding) refl refl))
 
 prioritized-shown : (i n : ℕ) (e : interrupts.Interrupt) → outcomeShown (prioritized i n e) ≡ true
-unfolding prioritized shown
+unfolding prioritized told shown worded
 prioritized-shown i n e =
     either outcomeShown (eqb (e .priority) holding && not (eqb n holding) && eqb (e .bits % 2) 1) (announced-shown i (e .server) n (e .bits / 2 * 2)) refl
 
 onGood-shown : (e : interrupts.Interrupt) (o : Outcome) → outcomeShown o ≡ true → outcomeShown (onGood e o) ≡ true
-unfolding shown
+unfolding told shown worded
 onGood-shown e o h = either outcomeShown (ranged e) h refl
 
-accessed-shown : (h : Hit) (p : PeNumber) (w : ℕ) (x : Answer) → shown x ≡ true → shown (accessed h p w x) ≡ true
-unfolding accessed shown
-accessed-shown (At n c) p w x h = either shown (mmioStopped w) h refl
+accessed-shown : (h : Hit) (p : PeNumber) (w : ℕ) (x : Answer) → told x ≡ true → told (accessed h p w x) ≡ true
+unfolding accessed told shown worded
+accessed-shown (At n c) p w x h = either told (mmioStopped w) h refl
 accessed-shown Miss p w x h = h
 
 byEntry-shown : (e : TranslationEntry) (p : PeNumber) (q : DmaRequest) → checkedShown (byEntry e p q) ≡ true
@@ -154,7 +166,7 @@ byEntry-shown e p q =
     (outcomeOf-shown p (q .address) (unwalked e (offset (q .address))) 0 (unwalked-shown e (offset (q .address))))
 
 served-shown : (c : AddressClass) (k : ℕ) (e l : List ℕ) (p : PeNumber) (q : DmaRequest) → checkedShown (served c k e l p q) ≡ true
-unfolding served shown
+unfolding served told shown worded
 served-shown class.Dma k e l p q = byEntry-shown (entryIn e p (half (q .address))) p q
 served-shown class.Msi32 k e l p q = msi-shown k l p (q .address) _ _
 served-shown class.Msi64 k e l p q = msi-shown k l p (q .address) _ _
@@ -168,25 +180,25 @@ finish-shown m (Walk p e q) h =
     outcomeOf-shown p (q .address) (byPages m e (q .direction) (offset (q .address)) .result) _ (pages-shown m e (q .direction) (offset (q .address)))
 
 -- the refusals that nobody gets
-named-shown : (r : Reason) (n k : ℕ) → shown (Refuse r 0) ≡ true → ownerShown (named r n k) ≡ true
+named-shown : (r : Reason) (n k : ℕ) → told (refuse r) ≡ true → ownerShown (named r n k) ≡ true
 unfolding named
 named-shown r n k h = either ownerShown (ltb k n) refl h
 
 hit-shown : (n : ℕ) (h : Hit) → ownerShown (ofHit n h) ≡ true
-unfolding shown
+unfolding told shown worded
 hit-shown n (At k c) = named-shown NoWindow n k refl
 hit-shown n Miss = refl
 
 requester-shown : (n c : ℕ) (l : List ℕ) (r : ℕ) → ownerShown (ofRequester n c l r) ≡ true
-unfolding shown
+unfolding told shown worded
 requester-shown n c l r = either ownerShown (ltb r c) (named-shown UnknownRequester n _ refl) refl
 
 interrupt-shown : (n c : ℕ) (l : List ℕ) (i : ℕ) → ownerShown (ofInterrupt n c l i) ≡ true
-unfolding shown
+unfolding told shown worded
 interrupt-shown n c l i = either ownerShown (ltb i c) (named-shown BadFirmware n _ refl) refl
 
 owner-shown : (z : Sizes) (r w g l : List ℕ) (q : Request) → ownerShown (ownerIn z r w g l q) ≡ true
-unfolding ownerIn shown
+unfolding ownerIn told shown worded
 owner-shown z r w g l (Dma q) = requester-shown (z .pes) (z .requesters) r _
 owner-shown z r w g l (Load a n) = hit-shown (z .pes) (route _ _ _)
 owner-shown z r w g l (Store a n) = hit-shown (z .pes) (route _ _ _)
@@ -198,7 +210,7 @@ owner-shown z r w g l Unnamed = refl
 
 module _ (z : Sizes) (requesters entries windows segments : List ℕ) (s : Live) where
   ask-shown : (p : PeNumber) (q : Request) → checkedShown (ask z requesters entries windows segments s p q) ≡ true
-  unfolding ask dmaAsked shown
+  unfolding ask dmaAsked told shown worded
   ask-shown p (Dma q) =
       either checkedShown (dmaStopped (at (s .state) (stopWord p))) refl (served-shown (classOf (q .address)) (z .interrupts) entries (s .interrupts) p q)
   ask-shown p (Load a w) = accessed-shown (route windows segments a) p (at (s .state) (stopWord p)) (Ones (onesOf w)) refl
@@ -215,7 +227,7 @@ module _ (z : Sizes) (requesters entries windows segments : List ℕ) (s : Live)
   asked-shown q (Nobody r) h = h
 
   checked-shown : (ok : Bool) (q : Request) → checkedShown (checked z requesters entries windows segments s ok q) ≡ true
-  unfolding checked shown
+  unfolding checked told shown worded
   checked-shown ok q =
       either checkedShown ok
       (either checkedShown (formed q) (asked-shown q _ (owner-shown z requesters windows segments (s .interrupts) q)) refl) refl
@@ -225,18 +237,28 @@ module _ (f : Tables) (m : List ℕ) (s : Live) (q : Request) where
   decided-shown =
       finish-shown m _ (checked-shown (f .sizes) (f .requesters) (f .entries) (f .windows) (f .segments) s (sized (f .sizes) (lengths f (length m) s)) q)
 
+  answered-told : told (answered f m s q) ≡ true
+  answered-told = and-right (fits (answered f m s q) (decided f m s q .effect)) (told (answered f m s q)) decided-shown
+
   pub answered-shown : shown (answered f m s q) ≡ true
-  answered-shown = and-right (fits (answered f m s q) (decided f m s q .effect)) (shown (answered f m s q)) decided-shown
+  unfolding told
+  answered-shown = and-left (shown (answered f m s q)) (worded (answered f m s q)) answered-told
+
+  pub answered-worded : worded (answered f m s q) ≡ true
+  unfolding told
+  answered-worded = and-right (shown (answered f m s q)) (worded (answered f m s q)) answered-told
 
   pub decided-fits : fits (answered f m s q) (decided f m s q .effect) ≡ true
-  decided-fits = and-left (fits (answered f m s q) (decided f m s q .effect)) (shown (answered f m s q)) decided-shown
+  decided-fits = and-left (fits (answered f m s q) (decided f m s q .effect)) (told (answered f m s q)) decided-shown
 
 -- ---- a refusal
 
 -- an effect that goes with an answer that has a reason takes no peers
 takes-none : (a : Answer) (x : Effect) → fits a x ≡ true → eqb (numbered a .reason) 0 ≡ false → takes x ≡ false
 takes-none a Keep h r = refl
-takes-none a (Freeze e true) h r = clash (and-right (eqb (reasonNumber (e .reason)) 12) (eqb (numbered a .reason) 0) h) r
+takes-none a (Freeze e true) h r =
+    clash (and-right (eqb (reasonNumber (e .reason)) 12) (eqb (numbered a .reason) 0)
+    (and-right (eqb (e .word .0) (numbered a .word)) (eqb (reasonNumber (e .reason)) 12 && eqb (numbered a .reason) 0) h)) r
 takes-none a (Freeze e false) h r = refl
 takes-none a (Release c) h r = refl
 takes-none a (Interrupt i n b) h r = refl
@@ -261,12 +283,12 @@ kept f s (Of p) = refl
 kept f s (Nobody r) = refl
 
 module _ (f : Tables) (m : List ℕ) (s : Live) (q : Request) (bad : sized (f .sizes) (lengths f (length m) s) ≡ false) where
-  unsized-decided : decided f m s q ≡ record { answer = Refuse TableLength 0; effect = Keep }
+  unsized-decided : decided f m s q ≡ record { answer = refuse TableLength; effect = Keep }
   unfolding checked finish
   unsized-decided =
       ap (λ (b : Bool). finish m (checked (f .sizes) (f .requesters) (f .entries) (f .windows) (f .segments) s b q)) bad
 
-  pub unsized-answered : answered f m s q ≡ Refuse TableLength 0
+  pub unsized-answered : answered f m s q ≡ refuse TableLength
   unsized-answered = ap (λ (o : Outcome). o .answer) unsized-decided
 
   pub unsized-keeps : after f m s q ≡ s

@@ -8,21 +8,24 @@
 --     plain               the bridge with 01's record: a table at 0x2000, one level, table code 1, page code 1
 --     short               a bridge that reason 1 refuses: it lacks a word of the windows
 --     wide n v w g        n PEs and no interrupt; requester 0 is PE 0, requester 1 the last PE
---     stateRow w r v      the words of a PE in the state; calm: of one that is not stopped and has no record; endpoints n r: n PEs with the words r
+--     wordRow w r v a     the words of a PE in the state, with the address of a table word in the record; stateRow w r v: with none; calm: of one that is
+--                         not stopped and has no record; endpoints n r: n PEs with the words r
 --     live l e            the state l, and interrupt 7 with the words e
 --     idle                nobody stopped; interrupt 7 is PE 2's, with server 5, priority 6, P = Q = 0
---     states a b c d      the state of four PEs with these words, with the interrupts of `idle`; endpoint w r v: PE 2's words are w, r and v, the
---                         others' 0
+--     states a b c d      the state of four PEs with these words, with the interrupts of `idle`; endpointAt w r v a, endpoint w r v: PE 2's words are
+--                         such a row, the others' 0
 --     stopped             every PE stopped, with empty records
 --     quiet n             the words of n PEs, all 0, and no interrupt
 --     empty, words a v m  a memory of 2,600 words, all 0; memory m with word v at address a
---     dma .. pass         requests and the answer pass, in bare numbers
---     row                 a row; keeps: nothing changes; refuses: a refusal that changes nothing, with no word read; freezes: on `idle`, a refusal
---                         that freezes PE 2 alone, with its number and value in the error record
+--     dma .. refuseAt     requests and the answers pass and refuse, in bare numbers
+--     row                 a row; keeps: nothing changes; refuses: a refusal that changes nothing, with no word read; freezesAt: on `idle`, a refusal
+--                         that freezes PE 2 alone, with its number and value in the error record, and the address of a table word in both; freezes:
+--                         with none
 -- Assumes nothing.
 use mathlib.Core.List.{List, [], _∷_, _++_}
 use Prim.Native.Nat.{ℕ, zero, suc, _-_, _*_, _/_}
 use lib.ListN.{set, replicate}
+use Rattle.kinds.specs.Answer.{refuse}
 use Rattle.kinds.specs.declared.answer.Answer.{Answer}
 use Rattle.kinds.specs.declared.answer.Answer.the-variants.{Pass, Refuse}
 use Rattle.kinds.specs.declared.answer.Reason.{Reason}
@@ -92,8 +95,11 @@ wide n v w g = record {
   segments = g;
 }
 
+abbrev pub wordRow : (stop reason value word : ℕ) → List ℕ
+wordRow w r v a = w ∷ r ∷ v ∷ a ∷ []
+
 abbrev pub stateRow : (stop reason value : ℕ) → List ℕ
-stateRow w r v = w ∷ r ∷ v ∷ []
+stateRow w r v = wordRow w r v 0
 
 abbrev pub calm : List ℕ
 calm = stateRow 0 0 0
@@ -111,8 +117,11 @@ idle = live (endpoints 4 calm) (2 ∷ 5 ∷ 6 ∷ 0 ∷ [])
 abbrev pub states : (a b c d : List ℕ) → Live
 states a b c d = live (a ++ b ++ c ++ d) (2 ∷ 5 ∷ 6 ∷ 0 ∷ [])
 
+abbrev pub endpointAt : (stop reason value word : ℕ) → Live
+endpointAt w r v a = states calm calm (wordRow w r v a) calm
+
 abbrev pub endpoint : (stop reason value : ℕ) → Live
-endpoint w r v = states calm calm (stateRow w r v) calm
+endpoint w r v = endpointAt w r v 0
 
 abbrev pub stopped : Live
 stopped = live (endpoints 4 (stateRow 3 0 0)) (2 ∷ 5 ∷ 6 ∷ 0 ∷ [])
@@ -151,7 +160,13 @@ abbrev pub keeps : Tables → List ℕ → Live → Request → Answer → Case
 keeps f m s q a = row f m s q a s
 
 abbrev pub refuses : Tables → Live → Request → Reason → Case
-refuses f s q r = keeps f empty s q (Refuse r 0)
+refuses f s q r = keeps f empty s q (refuse r)
 
-abbrev pub freezes : Tables → List ℕ → Request → Reason → (words number value : ℕ) → Case
-freezes f m q r n k v = row f m idle q (Refuse r n) (endpoint 3 k v)
+abbrev pub refuseAt : Reason → (words word : ℕ) → Answer
+refuseAt r n a = Refuse r n (record { 0 = a })
+
+abbrev pub freezesAt : Tables → List ℕ → Request → Reason → (words number value word : ℕ) → Case
+freezesAt f m q r n k v a = row f m idle q (refuseAt r n a) (endpointAt 3 k v a)
+
+abbrev pub freezes : Tables → List ℕ → Request → Reason → (number value : ℕ) → Case
+freezes f m q r k v = freezesAt f m q r 0 k v 0

@@ -6,11 +6,12 @@ use mathlib.Core.Path.{_≡_, refl}
 use mathlib.Core.List.{List, [], _∷_, map}
 use Prim.Native.Nat.{ℕ}
 use lib.ListN.{replicate}
-use Rattle.kinds.specs.declared.answer.Answer.the-variants.{Msi, Refuse, Done}
+use Rattle.kinds.specs.Answer.{refuse}
+use Rattle.kinds.specs.declared.answer.Answer.the-variants.{Msi, Done}
 use Rattle.kinds.specs.declared.answer.Reason.the-variants.{BadRequest, OutsideWindow, TableWord}
 use Rattle.kinds.specs.declared.request.Request.the-variants.{Error}
 use Rattle.profile.specs.Tables.{Tables, Live}
-use Rattle.profile.specs.Case.{Case, given, stated, entered, peered, windowed, none, plain, stateRow, calm, endpoints, live, idle, states, empty, words, read, write, load, pass, row, keeps, freezes}
+use Rattle.profile.specs.Case.{Case, given, stated, entered, peered, windowed, none, plain, stateRow, calm, endpoints, live, idle, states, empty, words, read, write, load, pass, row, keeps, freezesAt, freezes}
 
 -- A and D, B, E, F
 unfoldable pub memoryA : List ℕ
@@ -46,24 +47,24 @@ unfolding memoryA memoryB memoryE memoryF bypassG presented windowI peersJ
 cases =
     -- A: one level
     keeps plain memoryA idle (read 5 0x3ABC 4) (pass 0x12345ABC 2 1)
-    -- B: the last word, which allows writes only
+    -- B: the last word, which allows writes only; it is at 0x2FF8
     ∷ keeps plain memoryB idle (write 5 0x1FFFFF 1 0) (pass 0x77777FFF 2 1)
-    ∷ freezes plain memoryB (read 5 0x1FFFFF 1) TableWord 1 8 0x1FFFFF
+    ∷ freezesAt plain memoryB (read 5 0x1FFFFF 1) TableWord 1 8 0x1FFFFF 0x2FF8
     -- C: the first offset outside the window
-    ∷ freezes plain memoryA (read 5 0x200000 4) OutsideWindow 0 7 0x200000
+    ∷ freezes plain memoryA (read 5 0x200000 4) OutsideWindow 7 0x200000
     -- D: the end of a block, and the lengths
-    ∷ keeps plain memoryA idle (read 5 0x3FFF 2) (Refuse BadRequest 0)
+    ∷ keeps plain memoryA idle (read 5 0x3FFF 2) (refuse BadRequest)
     ∷ keeps plain memoryA idle (read 5 0x3FFF 1) (pass 0x12345FFF 2 1)
-    ∷ keeps plain memoryA idle (read 5 0x3000 0) (Refuse BadRequest 0)
-    ∷ keeps plain memoryA idle (read 5 0x3000 4097) (Refuse BadRequest 0)
+    ∷ keeps plain memoryA idle (read 5 0x3000 0) (refuse BadRequest)
+    ∷ keeps plain memoryA idle (read 5 0x3000 4097) (refuse BadRequest)
     -- E: pages of 64 KiB
     ∷ keeps (entered (0x2000 ∷ 1 ∷ 1 ∷ 5 ∷ []) none) memoryE idle (read 5 0xABCD 1) (pass 0x1234ABCD 2 1)
     -- F: two levels, a write through an upper word that is read-valid only
     ∷ keeps (entered (0x2000 ∷ 2 ∷ 1 ∷ 1 ∷ []) none) memoryF idle (write 5 0x403010 4 0) (pass 0x9010 2 2)
     -- G: bypass
     ∷ keeps bypassG empty idle (read 5 0x0800000001000000 4) (pass 0x1000000 2 0)
-    ∷ freezes bypassG empty (read 5 0x0800000002000000 4) OutsideWindow 0 7 0x0800000002000000
-    ∷ freezes bypassG empty (read 5 0x0800000000FFFFFF 1) OutsideWindow 0 7 0x0800000000FFFFFF
+    ∷ freezes bypassG empty (read 5 0x0800000002000000 4) OutsideWindow 7 0x0800000002000000
+    ∷ freezes bypassG empty (read 5 0x0800000000FFFFFF 1) OutsideWindow 7 0x0800000000FFFFFF
     -- H: both MSI windows
     ∷ row plain empty idle (write 5 0x1000000000000070 4 3) (Msi 7 5 6) presented
     ∷ row plain empty idle (write 5 0xFFFF0070 4 0) (Msi 7 5 6) presented

@@ -11,7 +11,7 @@ use Prim.Native.Nat.{ℕ, _+_, _-_, _*_, _^_}
 use Rattle.kinds.specs.declared.answer.Reason.{Reason}
 use Rattle.kinds.specs.declared.answer.Reason.the-variants.{TableLength, BadRequest, UnknownRequester, DmaStopped, AddressClass, BadEntry, OutsideWindow, MsiRefused, OutsideMemory}
 use Rattle.profile.specs.Tables.{Tables}
-use Rattle.profile.specs.Case.{Case, entered, none, plain, short, idle, endpoint, stateRow, calm, states, stopped, empty, words, read, write, pass, keeps, refuses, freezes}
+use Rattle.profile.specs.Case.{Case, entered, none, plain, short, idle, endpoint, stateRow, calm, states, stopped, empty, words, read, write, pass, keeps, refuses, freezesAt, freezes}
 
 -- PE 2's first record, with no second one; its second, with no first one
 abbrev pub first : (base levels table page : ℕ) → Tables
@@ -22,7 +22,7 @@ second b l t p = entered none (b ∷ l ∷ t ∷ p ∷ [])
 
 -- a read of one byte by requester 5 that freezes PE 2, and one that passes
 abbrev pub fails : Tables → List ℕ → (address : ℕ) → Reason → (number : ℕ) → Case
-fails f m a r k = freezes f m (read 5 a 1) r 0 k a
+fails f m a r k = freezes f m (read 5 a 1) r k a
 
 abbrev pub passes : Tables → List ℕ → (address to words : ℕ) → Case
 passes f m a b n = keeps f m idle (read 5 a 1) (pass b 2 n)
@@ -137,7 +137,7 @@ goodEntries =
     ∷ passes (first 0 1 31 0) memory 0x3ABC 0x3ABC 0
     -- 59 bits: no offset is outside
     ∷ passes (first 0 1 27 13) memory 0x3ABCDEF 0x12ABCDEF 1
-    ∷ fails (first 0 1 27 13) memory 0x07FFFFFFFFFFFFFF OutsideMemory 15
+    ∷ freezesAt (first 0 1 27 13) memory (read 5 0x07FFFFFFFFFFFFFF 1) OutsideMemory 0 15 0x07FFFFFFFFFFFFFF 0x3FFFFFFFF8
     -- the first and the last byte of a bypass; base and levels are no base and no levels there
     ∷ passes (first 1 2 1 0) memory 0x1000000 0x1000000 0
     ∷ passes (first 1 2 1 0) memory 0x1FFFFFF 0x1FFFFFF 0

@@ -13,15 +13,15 @@
 --     pagesGood e         a known page code, 1 to 5 levels, an aligned base, a span of at most 59; pageTests e: these tests
 --     paged e             the entry is good and has pages
 --     walks e o           and offset o is inside them: the page table is walked
---     small e             a table that can be walked at all: table code at most 31, at most 5 levels, at most 59 bits of all indexes. Every
---                         entry that walks is so; smallTests e: these tests
---     unwalked e o        else: bypass, 6 or 7, with no word of memory asked for
+--     walkable e          a table that can be walked at all: table code at most 31, at most 5 levels, at most 59 bits of all indexes, an aligned
+--                         base. Every entry that walks is so; walkableTests e: these tests
+--     unwalked e o        else: bypass, 6 or 7, with no word of memory asked for, so none that failed
 -- Assumes nothing.
 use mathlib.Core.Bool.{Bool, cond, not, _&&_, _||_}
 use mathlib.Core.List.{List, [], _∷_}
 use Prim.Native.Nat.{ℕ, _+_, _*_, _/_, _%_, _^_}
 use lib.Dec.{leb, ltb, eqb}
-use Rattle.kinds.specs.Number.{pageBits, pageNumber}
+use Rattle.kinds.specs.Number.{pageBits, pageNumber, noWord}
 use Rattle.kinds.specs.Tests.{all}
 use Rattle.kinds.specs.Words.{at}
 use Rattle.kinds.specs.declared.answer.Reason.the-variants.{BadEntry, OutsideWindow}
@@ -110,11 +110,12 @@ paged e = tableGood e && not (bypass e) && pagesGood e
 unfoldable pub walks : TranslationEntry → (offset : ByteAddress) → Bool
 walks e o = paged e && ltb (o .0) (2 ^ span e)
 
-abbrev pub smallTests : TranslationEntry → List Bool
-smallTests e = leb (e .table) mostTableCode ∷ leb (e .levels) mostLevels ∷ leb (indexBits e * e .levels) offsetBits ∷ []
+abbrev pub walkableTests : TranslationEntry → List Bool
+walkableTests e =
+    leb (e .table) mostTableCode ∷ leb (e .levels) mostLevels ∷ leb (indexBits e * e .levels) offsetBits ∷ aligned (indexBits e) (record { 0 = e .base }) ∷ []
 
-unfoldable pub small : TranslationEntry → Bool
-small e = all (smallTests e)
+unfoldable pub walkable : TranslationEntry → Bool
+walkable e = all (walkableTests e)
 
 -- inside the bypass range, its end not included
 unfoldable pub inBypass : TranslationEntry → (offset : ByteAddress) → Bool
@@ -124,6 +125,6 @@ unfoldable pub unwalked : TranslationEntry → (offset : ByteAddress) → Transl
 unwalked e o =
     cond (tableGood e)
     (cond (bypass e)
-    (cond (bypassGood e) (cond (inBypass e o) (To o) (Fault OutsideWindow 0)) (Fault BadEntry 0))
-    (cond (pagesGood e) (Fault OutsideWindow 0) (Fault BadEntry 0)))
-    (Fault BadEntry 0)
+    (cond (bypassGood e) (cond (inBypass e o) (To o) (Fault OutsideWindow noWord)) (Fault BadEntry noWord))
+    (cond (pagesGood e) (Fault OutsideWindow noWord) (Fault BadEntry noWord)))
+    (Fault BadEntry noWord)

@@ -1,7 +1,7 @@
 -- 01's limits, in numbers: at each limit and one past it, in one table with one statement over it.
 --     Limit               what a test of the definition gives, and what 01 says
 --     lent n m r w f      a row of `sized`: N, M, R and the words of memory, with the lengths of all tables changed by f; most: in digits
---     walked t l          a row of `small`: a table code and a number of levels
+--     based b t l         a row of `walkable`: a base, a table code and a number of levels; walked t l: with base 0
 --     asked q             a row of `formed`
 --     sizes, lengths      the numbers N, M, R and the words of memory, with lengths that agree; each length one less and one more
 --     depths              page tables that can be walked, and that cannot
@@ -17,7 +17,7 @@ use lib.Dec.{eqb}
 use Rattle.kinds.specs.declared.request.Part.the-variants.{Mmio}
 use Rattle.kinds.specs.declared.request.Request.{Request}
 use Rattle.kinds.specs.declared.request.Request.the-variants.{Error, Clear, End, Priority, Unnamed}
-use Rattle.profile.specs.Entry.{small}
+use Rattle.profile.specs.Entry.{aligned, walkable}
 use Rattle.profile.specs.Tables.{entryWords, peerWords, interruptWords, stateWords, windowWords, segmentCount, sized}
 use Rattle.profile.specs.Step.{accessFormed, dmaFormed, formed}
 use Rattle.profile.specs.Case.{read, write, load, store}
@@ -56,15 +56,18 @@ lent n m r w f x = record {
 abbrev pub most : Limit
 most = record {
   gives = sized (record { pes = 256; interrupts = 4096; requesters = 65536 })
-      (record { requesters = 65536; entries = 2048; memory = 1048576; peers = 1024; interrupts = 16384; windows = 67; segments = 256; state = 768 });
+      (record { requesters = 65536; entries = 2048; memory = 1048576; peers = 1024; interrupts = 16384; windows = 67; segments = 256; state = 1024 });
   good = true;
 }
 
 abbrev pub asked : Request → Bool → Limit
 asked q x = record { gives = formed q; good = x }
 
+abbrev pub based : (base table levels : ℕ) → Bool → Limit
+based b t l x = record { gives = walkable (record { base = b; levels = l; table = t; page = 1 }); good = x }
+
 abbrev pub walked : (table levels : ℕ) → Bool → Limit
-walked t l x = record { gives = small (record { base = 0; levels = l; table = t; page = 1 }); good = x }
+walked t l x = based 0 t l x
 
 unfoldable pub sizes : List Limit
 sizes =
@@ -100,7 +103,7 @@ lengths =
     ∷ map (λ k. lent 4 8 8 100 (less k) false) others
     ++ map (λ k. lent 4 8 8 100 (more k) false) others
 
--- table codes and levels, and the bits of all indexes together
+-- table codes and levels, the bits of all indexes together, and the base
 unfoldable pub depths : List Limit
 depths =
     walked 31 1 true
@@ -110,6 +113,11 @@ depths =
     ∷ walked 21 2 true
     ∷ walked 22 2 false
     ∷ walked 4 5 false
+    ∷ based 0x1000 1 5 true
+    ∷ based 0x800 1 5 false
+    ∷ based 0xFFFFFFFFFFFFF001 1 1 false
+    ∷ based (2 ^ 42) 31 1 true
+    ∷ based (2 ^ 41) 31 1 false
     ∷ []
 
 unfoldable pub forms : List Limit
@@ -166,5 +174,5 @@ unfolding sizes lengths depths forms
 limits = sizes ++ lengths ++ depths ++ forms
 
 pub limits-hold : map (λ c. c .gives) limits ≡ map (λ c. c .good) limits
-unfolding limits sized small formed dmaFormed accessFormed
+unfolding limits sized aligned walkable formed dmaFormed accessFormed
 limits-hold = refl

@@ -17,6 +17,7 @@ use Prim.Native.Nat.{ℕ, _+_, _*_, _/_, _%_, _^_}
 use lib.Bits.{bitOr}
 use lib.Dec.{leb, ltb, eqb}
 use lib.ListN.{set}
+use Rattle.kinds.specs.Number.{noWord}
 use Rattle.kinds.specs.Outcome.{failed}
 use Rattle.kinds.specs.Words.{at, peAt}
 use Rattle.kinds.specs.declared.answer.Answer.{Answer}
@@ -83,7 +84,7 @@ arrives i e = record {
 
 unfoldable pub delivered : PeNumber → ByteAddress → (i : ℕ) → Interrupt → Outcome
 delivered p a i e =
-    cond (eqb (e .pe) (p .0)) (cond (ranged e) (arrives i e) (failed MsiRefused a 0)) (failed MsiRefused a 0)
+    cond (eqb (e .pe) (p .0)) (cond (ranged e) (arrives i e) (failed MsiRefused a 0 noWord)) (failed MsiRefused a 0 noWord)
 
 unfoldable pub msi : (count : ℕ) → List ℕ → PeNumber → ByteAddress → (i : ℕ) → Bool → Outcome
-msi c l p a i ok = cond (ok && ltb i c) (delivered p a i (interruptIn l i)) (failed MsiRefused a 0)
+msi c l p a i ok = cond (ok && ltb i c) (delivered p a i (interruptIn l i)) (failed MsiRefused a 0 noWord)

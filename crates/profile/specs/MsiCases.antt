@@ -14,7 +14,8 @@ use mathlib.Core.List.{List, [], _∷_, _++_, map}
 use Prim.Native.Nat.{ℕ, _+_, _-_, _*_, _^_}
 use lib.ListN.{replicate}
 use Rattle.kinds.specs.declared.answer.Answer.{Answer}
-use Rattle.kinds.specs.declared.answer.Answer.the-variants.{Msi, Held, Refuse, Done}
+use Rattle.kinds.specs.Answer.{refuse}
+use Rattle.kinds.specs.declared.answer.Answer.the-variants.{Msi, Held, Done}
 use Rattle.kinds.specs.declared.answer.Reason.the-variants.{TableLength, BadRequest, MsiRefused, BadFirmware}
 use Rattle.kinds.specs.declared.request.Request.{Request}
 use Rattle.kinds.specs.declared.request.Request.the-variants.{End, Priority}
@@ -62,7 +63,7 @@ abbrev pub isSeven : (address word : ℕ) → Case
 isSeven a v = row plain empty idle (write 5 a 4 v) (Msi 7 5 6) (irq 2 5 6 2)
 
 abbrev pub isOther : (address word : ℕ) → Case
-isOther a v = freezes plain empty (write 5 a 4 v) MsiRefused 0 9 a
+isOther a v = freezes plain empty (write 5 a 4 v) MsiRefused 9 a
 
 unfoldable pub numbers : List Case
 numbers =
@@ -119,20 +120,20 @@ numbers-hold = refl
 
 -- MSI 7 meets a record that refuses it
 abbrev pub badRecord : (pe server priority bits : ℕ) → Case
-badRecord e v p b = row plain empty (irq e v p b) seven (Refuse MsiRefused 0) (irqFrozen e v p b 0x1000000000000070)
+badRecord e v p b = row plain empty (irq e v p b) seven (refuse MsiRefused) (irqFrozen e v p b 0x1000000000000070)
 
 unfoldable pub badMsi : List Case
 badMsi =
     -- a read; lengths 2, 8 and 1; an address that is no multiple of 4
-    freezes plain empty (read 5 0x1000000000000070 4) MsiRefused 0 9 0x1000000000000070
-    ∷ freezes plain empty (write 5 0x1000000000000070 2 3) MsiRefused 0 9 0x1000000000000070
-    ∷ freezes plain empty (write 5 0x1000000000000070 8 3) MsiRefused 0 9 0x1000000000000070
-    ∷ freezes plain empty (write 5 0xFFFF0070 1 3) MsiRefused 0 9 0xFFFF0070
-    ∷ freezes plain empty (write 5 0x1000000000000072 4 3) MsiRefused 0 9 0x1000000000000072
-    ∷ freezes plain empty (write 5 0xFFFF0071 4 3) MsiRefused 0 9 0xFFFF0071
+    freezes plain empty (read 5 0x1000000000000070 4) MsiRefused 9 0x1000000000000070
+    ∷ freezes plain empty (write 5 0x1000000000000070 2 3) MsiRefused 9 0x1000000000000070
+    ∷ freezes plain empty (write 5 0x1000000000000070 8 3) MsiRefused 9 0x1000000000000070
+    ∷ freezes plain empty (write 5 0xFFFF0070 1 3) MsiRefused 9 0xFFFF0070
+    ∷ freezes plain empty (write 5 0x1000000000000072 4 3) MsiRefused 9 0x1000000000000072
+    ∷ freezes plain empty (write 5 0xFFFF0071 4 3) MsiRefused 9 0xFFFF0071
     -- number M
-    ∷ freezes plain empty (write 5 0x1000000000000080 4 0) MsiRefused 0 9 0x1000000000000080
-    ∷ freezes plain empty (write 5 0xFFFF0000 4 8) MsiRefused 0 9 0xFFFF0000
+    ∷ freezes plain empty (write 5 0x1000000000000080 4 0) MsiRefused 9 0x1000000000000080
+    ∷ freezes plain empty (write 5 0xFFFF0000 4 8) MsiRefused 9 0xFFFF0000
     -- server, priority, state
     ∷ badRecord 2 (2 ^ 24) 6 0
     ∷ badRecord 2 5 256 0
@@ -236,7 +237,7 @@ abbrev pub isLast : (address word : ℕ) → Case
 isLast a v = row (counted 4096) empty (lastIrq 4096 0) (write 5 a 4 v) (Msi 4095 5 6) (lastIrq 4096 2)
 
 abbrev pub pastLast : (address word : ℕ) → Case
-pastLast a v = row (counted 4096) empty (lastIrq 4096 0) (write 5 a 4 v) (Refuse MsiRefused 0) (lastFrozen 4096 a)
+pastLast a v = row (counted 4096) empty (lastIrq 4096 0) (write 5 a 4 v) (refuse MsiRefused) (lastFrozen 4096 a)
 
 unfoldable pub lastInterrupts : List Case
 lastInterrupts =

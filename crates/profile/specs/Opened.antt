@@ -4,7 +4,7 @@
 use Rattle.kinds.specs.Words.{mapAt}
 use Rattle.profile.specs.Tables.{sized, named}
 use Rattle.profile.specs.Freeze.{marked, frozen, released}
-use Rattle.profile.specs.Entry.{classOf, pageSize, span, aligned, tableGood, bypassGood, pagesGood, paged, small, walks, inBypass, unwalked}
+use Rattle.profile.specs.Entry.{classOf, pageSize, span, aligned, tableGood, bypassGood, pagesGood, paged, walkable, walks, inBypass, unwalked}
 use Rattle.profile.specs.Walk.{leads, turn, walkFrom, allows, landed, byPages, translated, readsBy}
 use Rattle.profile.specs.Msi.{ranged, number32, number64, msiFormed, presents, arrived, announced, delivered, msi}
 use Rattle.profile.specs.Firmware.{ends, prioritized}
@@ -13,5 +13,5 @@ use Rattle.profile.specs.Step.{accessFormed, dmaFormed, formed, outcomeO
 use Rattle.profile.specs.Owner.{ownerIn}
 
 unfoldable pub opened : Unit {0}
-unfolding mapAt sized named marked frozen released classOf pageSize span aligned tableGood bypassGood pagesGood paged small walks inBypass unwalked leads turn walkFrom allows landed byPages translated readsBy ranged number32 number64 msiFormed presents arrived announced delivered msi ends prioritized isPower covers segmentOf m32Open m64Open m64Pe m64 m64From route onesOf accessFormed dmaFormed formed ownerIn outcomeOf byEntry served dmaAsked accessed ask asked checked finish act actBy
+unfolding mapAt sized named marked frozen released classOf pageSize span aligned tableGood bypassGood pagesGood paged walkable walks inBypass unwalked leads turn walkFrom allows landed byPages translated readsBy ranged number32 number64 msiFormed presents arrived announced delivered msi ends prioritized isPower covers segmentOf m32Open m64Open m64Pe m64 m64From route onesOf accessFormed dmaFormed formed ownerIn outcomeOf byEntry served dmaAsked accessed ask asked checked finish act actBy
 opened = tt

@@ -22,7 +22,7 @@ use Rattle.kinds.specs.declared.request.Request.the-variants.{Error, Clear, End
 use Rattle.profile.specs.Opened.{opened}
 use Rattle.profile.specs.Tables.{Tables, Live, interruptWords}
 use Rattle.profile.specs.Owner.{owner}
-use Rattle.profile.specs.Case.{Case, given, stated, plain, short, windowed, calm, endpoints, idle, endpoint, stopped, empty, read, write, load, store, pass, row, keeps, refuses, freezes}
+use Rattle.profile.specs.Case.{Case, given, stated, plain, short, windowed, calm, endpoints, idle, endpoint, endpointAt, stopped, empty, read, write, load, store, pass, row, keeps, refuses, freezesAt}
 use Rattle.profile.specs.DmaCases.{memory, fails, passes}
 use Rattle.profile.specs.MsiCases.{irq, noGood}
 use Rattle.profile.specs.AccessCases.{m32I, m64, segments, on}
@@ -65,12 +65,12 @@ dmaOwners =
     ∷ fails plain empty 0x2000000000000000 AddressClass 5
     ∷ fails plain empty 0x0800000000003ABC BadEntry 6
     ∷ fails plain empty 0x200000 OutsideWindow 7
-    ∷ freezes plain empty (read 5 0x3ABC 4) TableWord 1 8 0x3ABC
+    ∷ freezesAt plain empty (read 5 0x3ABC 4) TableWord 1 8 0x3ABC 0x2018
     ∷ fails plain empty 0xFFFF0070 MsiRefused 9
-    ∷ fails plain [] 0x3ABC OutsideMemory 15
+    ∷ freezesAt plain [] (read 5 0x3ABC 4) OutsideMemory 0 15 0x3ABC 0x2018
     -- error messages, also of a stopped PE
     ∷ row plain empty idle (Error 5) Done (endpoint 3 12 5)
-    ∷ keeps plain empty (endpoint 3 8 0x3ABC) (Error 5) Done ∷ [])
+    ∷ keeps plain empty (endpointAt 3 8 0x3ABC 0x2018) (Error 5) Done ∷ [])
     -- requester R - 1 and PE N - 1; PE words N and 65,535; requester R, and one that is not cut to 16 bits
     ++ map (mine 3) (refuses last stopped (read 7 0x3ABC 4) DmaStopped ∷ refuses last idle (read 7 0x3ABC 0) BadRequest ∷ [])
     ++ map (nobodys UnknownRequester) (unknown plain 7 ++ unknown last 6 ++ unknown plain 8 ++ unknown plain 0x10005)

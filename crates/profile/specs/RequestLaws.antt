@@ -24,7 +24,8 @@ use Rattle.kinds.specs.Tests.{by-cases, clash, and-right}
 use Rattle.kinds.specs.Checked.{Checked, Kept, Ready, Walk}
 use Rattle.kinds.specs.Words.{at}
 use Rattle.kinds.specs.declared.answer.Answer.{Answer}
-use Rattle.kinds.specs.declared.answer.Answer.the-variants.{Ones, Drop, Refuse}
+use Rattle.kinds.specs.Answer.{refuse}
+use Rattle.kinds.specs.declared.answer.Answer.the-variants.{Ones, Drop}
 use Rattle.kinds.specs.declared.answer.Reason.the-variants.{DmaStopped}
 use Rattle.kinds.specs.declared.lookup.Hit.{Hit}
 use Rattle.kinds.specs.declared.lookup.Hit.the-variants.{At, Miss}
@@ -123,7 +124,7 @@ module _ {G : PeNumber → Bool} {f g : Tables} (w : Alike G f g) where
     unfolding ask ownerIn dmaAsked
     ask-agrees (Dma q) o p u =
         rw (dma-bit-agrees p u)
-        (ap (cond (dmaStopped (at (t .state) (stopWord p))) (Kept (Refuse DmaStopped 0))) (served-agrees (classOf (q .address)) p u q))
+        (ap (cond (dmaStopped (at (t .state) (stopWord p))) (Kept (refuse DmaStopped))) (served-agrees (classOf (q .address)) p u q))
     ask-agrees (Load a n) o p u = access-agrees p u a (Ones (onesOf n))
     ask-agrees (Store a n) o p u = access-agrees p u a Drop
     ask-agrees (Error n) o p u = refl

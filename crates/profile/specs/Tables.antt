@@ -51,7 +51,7 @@ abbrev pub segmentCount : ℕ
 segmentCount = 256
 
 abbrev pub stateWords : ℕ
-stateWords = 3
+stateWords = 4
 
 abbrev pub mostPes : ℕ
 mostPes = 256

@@ -4,12 +4,13 @@
 --     forbidden           reason 8: the last word, an upper word, a lower table misaligned; before 15
 --     missing             reason 15, at the first word and at later ones, and the last word of memory
 --     walkCases           all of them
---     Translating         a memory, an entry, a direction and an offset, and its translation: the address or the fault with its place, and the words read
---     translations        each way that a translation ends, by its places; translations-hold: THE STATEMENT over them
+--     Translating         a memory, an entry, a direction and an offset, and its translation: the address or the fault with its word, and the words read
+--     translations        each way that a translation ends, by the addresses of words; translations-hold: THE STATEMENT over them
 -- Assumes nothing.
 use mathlib.Core.Path.{_≡_, refl}
 use mathlib.Core.List.{List, [], _∷_, _++_, map}
 use Prim.Native.Nat.{ℕ, _/_}
+use Rattle.kinds.specs.declared.answer.Reason.{Reason}
 use Rattle.kinds.specs.declared.answer.Reason.the-variants.{BadEntry, OutsideWindow, TableWord, OutsideMemory}
 use Rattle.kinds.specs.declared.lookup.Translated.{Translated}
 use Rattle.kinds.specs.declared.lookup.Translated.the-variants.{To, Fault}
@@ -20,21 +21,21 @@ use Rattle.kinds.specs.declared.request.Direction.the-variants.{Read, Write}
 use Rattle.profile.specs.Opened.{opened}
 use Rattle.profile.specs.Tables.{Tables}
 use Rattle.profile.specs.Walk.{Translation, translated}
-use Rattle.profile.specs.Case.{Case, plain, idle, empty, words, read, write, pass, keeps, freezes}
+use Rattle.profile.specs.Case.{Case, plain, idle, empty, words, read, write, pass, keeps, freezesAt}
 use Rattle.profile.specs.DmaCases.{first, passes}
 
--- a write of one byte that passes; a read and a write that freeze PE 2 with reason 8, and a read with reason 15, after n words
+-- a write of one byte that passes; a read and a write that freeze PE 2 with reason 8, and a read with reason 15, after n words, by the word at w
 abbrev pub writes : Tables → List ℕ → (address to words : ℕ) → Case
 writes f m a b n = keeps f m idle (write 5 a 1 0) (pass b 2 n)
 
-abbrev pub readForbidden : Tables → List ℕ → (address words : ℕ) → Case
-readForbidden f m a n = freezes f m (read 5 a 1) TableWord n 8 a
+abbrev pub readForbidden : Tables → List ℕ → (address words word : ℕ) → Case
+readForbidden f m a n w = freezesAt f m (read 5 a 1) TableWord n 8 a w
 
-abbrev pub writeForbidden : Tables → List ℕ → (address words : ℕ) → Case
-writeForbidden f m a n = freezes f m (write 5 a 1 0) TableWord n 8 a
+abbrev pub writeForbidden : Tables → List ℕ → (address words word : ℕ) → Case
+writeForbidden f m a n w = freezesAt f m (write 5 a 1 0) TableWord n 8 a w
 
-abbrev pub absent : Tables → List ℕ → (address words : ℕ) → Case
-absent f m a n = freezes f m (read 5 a 1) OutsideMemory n 15 a
+abbrev pub absent : Tables → List ℕ → (address words word : ℕ) → Case
+absent f m a n w = freezesAt f m (read 5 a 1) OutsideMemory n 15 a w
 
 -- word 3 of the table at 0x2000
 abbrev pub third : (word : ℕ) → List ℕ
@@ -84,34 +85,45 @@ levels =
 unfoldable pub forbidden : List Case
 forbidden =
     -- the last word
-    readForbidden plain (third 0x12345002) 0x3ABC 1
-    ∷ writeForbidden plain (third 0x12345001) 0x3ABC 1
-    ∷ readForbidden plain (third 0x12345FFC) 0x3ABC 1
-    ∷ writeForbidden (first 0x2000 2 1 1) (words 0x5018 0x9001 (through 0x5003)) 0x403010 2
-    ∷ readForbidden (first 0x1000 5 1 1) (words 0x5028 0x12345002 chain) 0x10100C0805ABC 5
-    -- an upper word with both bits zero, with a good table behind it or one that is outside memory
-    ∷ readForbidden (first 0x2000 2 1 1) (through 0x5000) 0x403010 1
-    ∷ writeForbidden (first 0x2000 2 1 1) (through 0x5FFC) 0x403010 1
-    ∷ readForbidden (first 0x2000 2 1 1) (through 0x10000000) 0x403010 1
-    ∷ readForbidden (first 0x1000 5 1 1) (words 0x3018 0x4000 chain) 0x10100C0805ABC 3
-    -- a lower table misaligned: the upper word is counted, and no further one is read, in memory or not
-    ∷ readForbidden (first 0x2000 2 2 1) (words 0x2008 0x5003 (words 0x5018 0x9003 empty)) 0x403010 1
-    ∷ readForbidden (first 0x2000 2 2 1) (words 0x2008 0x10001003 empty) 0x403010 1
+    readForbidden plain (third 0x12345002) 0x3ABC 1 0x2018
+    ∷ writeForbidden plain (third 0x12345001) 0x3ABC 1 0x2018
+    ∷ readForbidden plain (third 0x12345FFC) 0x3ABC 1 0x2018
+    ∷ writeForbidden (first 0x2000 2 1 1) (words 0x5018 0x9001 (through 0x5003)) 0x403010 2 0x5018
+    ∷ readForbidden (first 0x1000 5 1 1) (words 0x5028 0x12345002 chain) 0x10100C0805ABC 5 0x5028
+    -- an upper word with both bits zero, with a good table behind it or one that is outside memory; the first of five, and the third
+    ∷ readForbidden (first 0x2000 2 1 1) (through 0x5000) 0x403010 1 0x2010
+    ∷ writeForbidden (first 0x2000 2 1 1) (through 0x5FFC) 0x403010 1 0x2010
+    ∷ readForbidden (first 0x2000 2 1 1) (through 0x10000000) 0x403010 1 0x2010
+    ∷ readForbidden (first 0x1000 5 1 1) (words 0x1008 0x2000 chain) 0x10100C0805ABC 1 0x1008
+    ∷ readForbidden (first 0x1000 5 1 1) (words 0x3018 0x4000 chain) 0x10100C0805ABC 3 0x3018
+    -- a lower table misaligned: the upper word is counted and named, and no further one is read, in memory or not
+    ∷ readForbidden (first 0x2000 2 2 1) (words 0x2008 0x5003 (words 0x5018 0x9003 empty)) 0x403010 1 0x2008
+    ∷ readForbidden (first 0x2000 2 2 1) (words 0x2008 0x10001003 empty) 0x403010 1 0x2008
+    -- a table at address 0: its first word, which is named as none is, and another one
+    ∷ readForbidden (first 0 1 1 1) empty 0xABC 1 0
+    ∷ readForbidden (first 0x2000 2 1 1) (words 0x2000 0x1 empty) 0x3ABC 2 0x18
     ∷ []
 
 unfoldable pub missing : List Case
 missing =
     -- the first word: it is not counted
-    absent (first 0x6000 1 1 1) empty 0x3ABC 0
-    ∷ absent (first 0xFFFFFFFFFFFFF000 1 1 1) empty 0x3ABC 0
-    ∷ absent plain [] 0x3ABC 0
+    absent (first 0x6000 1 1 1) empty 0x3ABC 0 0x6018
+    ∷ absent (first 0xFFFFFFFFFFFFF000 1 1 1) empty 0x3ABC 0 0xFFFFFFFFFFFFF018
+    ∷ absent (first 0xFFFFFFFFFFFFF000 1 1 1) empty 0x1FFABC 0 0xFFFFFFFFFFFFFFF8
+    ∷ absent plain [] 0x3ABC 0 0x2018
+    ∷ absent (first 0 1 1 1) [] 0xABC 0 0
     -- the last word of memory, and the one after it
     ∷ passes (first 0x5000 1 1 1) (words 0x5138 0x12345003 empty) 0x27ABC 0x12345ABC 1
-    ∷ absent (first 0x5000 1 1 1) (words 0x5138 0x12345003 empty) 0x28ABC 0
+    ∷ absent (first 0x5000 1 1 1) (words 0x5138 0x12345003 empty) 0x28ABC 0 0x5140
     -- a later word
-    ∷ absent (first 0x2000 2 1 1) (through 0x10000001) 0x403010 1
-    ∷ absent (first 0x2000 2 1 1) (through 0xFFFFFFFFFFFFF003) 0x403010 1
-    ∷ absent (first 0x1000 5 1 1) (words 0x4020 0x6001 chain) 0x10100C0805ABC 4
+    ∷ absent (first 0x2000 2 1 1) (through 0x10000001) 0x403010 1 0x10000018
+    ∷ absent (first 0x2000 2 1 1) (through 0xFFFFFFFFFFFFF003) 0x403010 1 0xFFFFFFFFFFFFF018
+    -- of five levels each
+    ∷ absent (first 0x100000 5 1 1) chain 0x10100C0805ABC 0 0x100008
+    ∷ absent (first 0x1000 5 1 1) (words 0x1008 0x7001 chain) 0x10100C0805ABC 1 0x7010
+    ∷ absent (first 0x1000 5 1 1) (words 0x2010 0x7002 chain) 0x10100C0805ABC 2 0x7018
+    ∷ absent (first 0x1000 5 1 1) (words 0x3018 0x7003 chain) 0x10100C0805ABC 3 0x7020
+    ∷ absent (first 0x1000 5 1 1) (words 0x4020 0x6001 chain) 0x10100C0805ABC 4 0x6028
     ∷ []
 
 unfoldable pub walkCases : List Case
@@ -140,26 +152,29 @@ translating m b l c p d o x r = record {
 abbrev pub to : ℕ → Translated
 to a = To (record { 0 = a })
 
+abbrev pub fault : Reason → (word : ℕ) → Translated
+fault r a = Fault r (record { 0 = a })
+
 unfoldable pub translations : List Translating
 translations =
     -- to a last word, by one level and by five
     translating chain 0x5000 1 1 1 Read 0x5ABC (to 0x12345ABC) (0x5028 ∷ [])
     ∷ translating chain 0x1000 5 1 1 Write 0x10100C0805ABC (to 0x12345ABC) (0x1008 ∷ 0x2010 ∷ 0x3018 ∷ 0x4020 ∷ 0x5028 ∷ [])
     -- 8: the last word, an upper word, a lower table misaligned
-    ∷ translating (words 0x5028 0x12345002 chain) 0x4000 2 1 1 Read 0x805ABC (Fault TableWord (0x5028 / 8)) (0x4020 ∷ 0x5028 ∷ [])
-    ∷ translating (words 0x4020 0x5000 chain) 0x3000 3 1 1 Read 0xC0805ABC (Fault TableWord (0x4020 / 8)) (0x3018 ∷ 0x4020 ∷ [])
-    ∷ translating (words 0x2008 0x5003 empty) 0x2000 2 2 1 Read 0x403010 (Fault TableWord (0x2008 / 8)) (0x2008 ∷ [])
+    ∷ translating (words 0x5028 0x12345002 chain) 0x4000 2 1 1 Read 0x805ABC (fault TableWord 0x5028) (0x4020 ∷ 0x5028 ∷ [])
+    ∷ translating (words 0x4020 0x5000 chain) 0x3000 3 1 1 Read 0xC0805ABC (fault TableWord 0x4020) (0x3018 ∷ 0x4020 ∷ [])
+    ∷ translating (words 0x2008 0x5003 empty) 0x2000 2 2 1 Read 0x403010 (fault TableWord 0x2008) (0x2008 ∷ [])
     -- 15: the first word, and a later one, which is not among those read
-    ∷ translating empty 0x6000 1 1 1 Read 0x3ABC (Fault OutsideMemory (0x6018 / 8)) []
-    ∷ translating (words 0x4020 0x6001 chain) 0x4000 2 1 1 Write 0x805ABC (Fault OutsideMemory (0x6028 / 8)) (0x4020 ∷ [])
+    ∷ translating empty 0x6000 1 1 1 Read 0x3ABC (fault OutsideMemory 0x6018) []
+    ∷ translating (words 0x4020 0x6001 chain) 0x4000 2 1 1 Write 0x805ABC (fault OutsideMemory 0x6028) (0x4020 ∷ [])
     -- bypass, and its 7 and 6
     ∷ translating empty 1 2 1 0 Read 0x1000000 (to 0x1000000) []
-    ∷ translating empty 1 2 1 0 Read 0x2000000 (Fault OutsideWindow 0) []
-    ∷ translating empty 2 2 1 0 Read 0x2000000 (Fault BadEntry 0) []
+    ∷ translating empty 1 2 1 0 Read 0x2000000 (fault OutsideWindow 0) []
+    ∷ translating empty 2 2 1 0 Read 0x2000000 (fault BadEntry 0) []
     -- 7 and 6 of pages; a bad table code
-    ∷ translating empty 0x2000 1 1 1 Read 0x200000 (Fault OutsideWindow 0) []
-    ∷ translating empty 0x2000 1 1 2 Read 0x3ABC (Fault BadEntry 0) []
-    ∷ translating empty 0x2000 1 0 1 Read 0x3ABC (Fault BadEntry 0) []
+    ∷ translating empty 0x2000 1 1 1 Read 0x200000 (fault OutsideWindow 0) []
+    ∷ translating empty 0x2000 1 1 2 Read 0x3ABC (fault BadEntry 0) []
+    ∷ translating empty 0x2000 1 0 1 Read 0x3ABC (fault BadEntry 0) []
     ∷ []
 
 pub translations-hold : map (λ c. translated (c .memory) (c .entry) (c .direction) (c .offset)) translations ≡ map (λ c. c .translation) translations

@@ -8,7 +8,7 @@
 --     walkFrom-reads      THE FOOTPRINT: two memories of one length, with the same words at the places that the walk reads in the first, give the
 --                         same walk, so the same places
 --     walk-reads, reads-reads, translated-reads   the same of the walk by an entry for an offset, of the places read for it, of its translation
---     paged-small         a good entry with pages has a table that can be walked; pages-is: where it is walked, that is the translation
+--     paged-walkable      a good entry with pages has a table that can be walked; pages-is: where it is walked, that is the translation
 --     walk-counted        A WALK TO A LAST WORD READS AS MANY WORDS AS THERE ARE LEVELS; pass-counted: so a translation by pages to an address does;
 --                         unwalked-counted: and one without a walk reads none
 -- Assumes nothing.
@@ -21,6 +21,7 @@ use native.Mathlib.Omega.{arith}
 use lib.Dec.{leb, ltb}
 use lib.ListN.{length}
 use borrow.Author.Tests.{le-leb, leb-true}
+use Rattle.kinds.specs.Number.{wordAddress, noWord}
 use Rattle.kinds.specs.Tests.{by-cases, clash, and-left, and-right, all-true}
 use Rattle.kinds.specs.Words.{at}
 use Rattle.kinds.specs.declared.lookup.Found.{Found}
@@ -31,17 +32,17 @@ use Rattle.kinds.specs.declared.number.PageNumber.{PageNumber}
 use Rattle.kinds.specs.declared.number.PageSize.{PageSize}
 use Rattle.kinds.specs.declared.record.TranslationEntry.{TranslationEntry}
 use Rattle.kinds.specs.declared.request.Direction.{Direction}
-use Rattle.profile.specs.Entry.{pageSize, pageOf, indexBits, span, offsetBits, tableGood, bypass, pageTests, pagesGood, paged, small, walks, unwalked, mostTableCode}
+use Rattle.profile.specs.Entry.{pageSize, pageOf, indexBits, span, offsetBits, tableGood, bypass, pageTests, pagesGood, paged, walkable, walks, unwalked, mostTableCode}
 use Rattle.profile.specs.Walk.{Walked, place, nextBase, leads, turn, walkFrom, walk, landed, byPages, translated, readsBy}
 
-pub walk-zero : (m : List ℕ) (n : ℕ) (b : ByteAddress) (q : PageNumber) → walkFrom m zero n b q ≡ record { found = Forbidden 0; reads = [] }
+pub walk-zero : (m : List ℕ) (n : ℕ) (b : ByteAddress) (q : PageNumber) → walkFrom m zero n b q ≡ record { found = Forbidden noWord; reads = [] }
 unfolding walkFrom
 walk-zero m n b q = refl
 
 pub walk-suc : (m : List ℕ) (k n : ℕ) (b : ByteAddress) (q : PageNumber) → walkFrom m (suc k) n b q
     ≡ cond (ltb (place k n b q) (length m))
     (turn k n (place k n b q) (at m (place k n b q)) (walkFrom m k n (nextBase (at m (place k n b q))) q))
-    (record { found = Outside (place k n b q); reads = [] })
+    (record { found = Outside (wordAddress (place k n b q)); reads = [] })
 unfolding walkFrom
 walk-suc m k n b q = refl
 
@@ -85,7 +86,7 @@ pub walk-cases : {P : Type 0} (m : List ℕ) (k n : ℕ) (b : ByteAddress) (q : 
 walk-cases m k n b q i h f g =
     let j = place k n b q in
     let below = walkFrom m k n (nextBase (at m j)) q in
-    let z : List·Memᴰ i (cond (ltb j (length m)) (turn k n j (at m j) below) (record { found = Outside j; reads = [] }) .reads) = rw (walk-suc m k n b q) at h in
+    let z : List·Memᴰ i (cond (ltb j (length m)) (turn k n j (at m j) below) (record { found = Outside (wordAddress j); reads = [] }) .reads) = rw (walk-suc m k n b q) at h in
     by-cases (ltb j (length m))
     (λ o. turn-cases k n j (at m j) below i (rw o at z) f g)
     (λ o. absurd (List·Memᴰ·not-nil (rw o at z)))
@@ -122,26 +123,26 @@ module _ (m m′ : List ℕ) (same-length : length m ≡ length m′) where
 -- ---- the count of a pass
 
 -- a fault of a walk is not a last word
-forbidden-frame : {P : Type 0} {i j x : ℕ} → Forbidden i ≡ Frame j x → P
+forbidden-frame : {P : Type 0} {i j : ByteAddress} {x : ℕ} → Forbidden i ≡ Frame j x → P
 forbidden-frame e = absurd (let z : _≡_ {A = ℕ} 0 1 = cc in omega arith)
 
-outside-frame : {P : Type 0} {i j x : ℕ} → Outside i ≡ Frame j x → P
+outside-frame : {P : Type 0} {i j : ByteAddress} {x : ℕ} → Outside i ≡ Frame j x → P
 outside-frame e = absurd (let z : _≡_ {A = ℕ} 0 1 = cc in omega arith)
 
-turn-counted : (k n j w i x : ℕ) (r : Walked) → (r .found ≡ Frame i x → length (r .reads) ≡ k) → turn k n j w r .found ≡ Frame i x
+turn-counted : (k n j w : ℕ) (i : ByteAddress) (x : ℕ) (r : Walked) → (r .found ≡ Frame i x → length (r .reads) ≡ k) → turn k n j w r .found ≡ Frame i x
     → length (turn k n j w r .reads) ≡ suc k
 unfolding turn
 turn-counted zero n j w i x r h e = refl
 turn-counted (suc k) n j w i x r h e =
     by-cases (leads n w) (λ o. rw o (ap suc (h (rw o at e)))) (λ o. forbidden-frame (rw o at e))
 
-pub walk-counted : (m : List ℕ) (l n : ℕ) (b : ByteAddress) (q : PageNumber) (i x : ℕ) → walkFrom m l n b q .found ≡ Frame i x
+pub walk-counted : (m : List ℕ) (l n : ℕ) (b : ByteAddress) (q : PageNumber) (i : ByteAddress) (x : ℕ) → walkFrom m l n b q .found ≡ Frame i x
     → length (walkFrom m l n b q .reads) ≡ l
 walk-counted m zero n b q i x e = rw (walk-zero m n b q)
 walk-counted m (suc k) n b q i x e =
     let j = place k n b q in
     let below = walkFrom m k n (nextBase (at m j)) q in
-    let y : cond (ltb j (length m)) (turn k n j (at m j) below) (record { found = Outside j; reads = [] }) .found ≡ Frame i x =
+    let y : cond (ltb j (length m)) (turn k n j (at m j) below) (record { found = Outside (wordAddress j); reads = [] }) .found ≡ Frame i x =
     rw (walk-suc m k n b q) at e in
     rw (walk-suc m k n b q)
     (by-cases (ltb j (length m))
@@ -150,7 +151,7 @@ walk-counted m (suc k) n b q i x e =
 
 -- only a last word lands at an address
 landed-frame : {P : Type 0} (s : PageSize) (d : Direction) (o : ByteAddress) (f : Found) (t : ByteAddress) → landed s d o f ≡ To t
-    → ((j x : ℕ) → f ≡ Frame j x → P) → P
+    → ((j : ByteAddress) (x : ℕ) → f ≡ Frame j x → P) → P
 unfolding landed
 landed-frame s d o (Frame j w) t e g = g j w refl
 landed-frame s d o (Forbidden j) t e g = absurd (let z : _≡_ {A = ℕ} 0 1 = cc in omega arith)
@@ -174,19 +175,19 @@ span-bits : (e : TranslationEntry) → span e ≤ offsetBits → indexBits e * e
 unfolding span
 span-bits e h = omega (arith, mul-comm (indexBits e) (e .levels))
 
-pub paged-small : (e : TranslationEntry) → paged e ≡ true → small e ≡ true
-unfolding paged small tableGood pagesGood
-paged-small e t =
+pub paged-walkable : (e : TranslationEntry) → paged e ≡ true → walkable e ≡ true
+unfolding paged walkable tableGood pagesGood
+paged-walkable e t =
     let good = and-right (tableGood e && not (bypass e)) (pagesGood e) t in
     let table = and-left (tableGood e) (not (bypass e)) (and-left (tableGood e && not (bypass e)) (pagesGood e) t) in
-    rw (and-right (leb 1 (e .table)) (leb (e .table) mostTableCode) table, all-true (pageTests e) 2 good)
+    rw (and-right (leb 1 (e .table)) (leb (e .table) mostTableCode) table, all-true (pageTests e) 2 good, all-true (pageTests e) 3 good)
     (rw (le-leb (indexBits e * e .levels) offsetBits (span-bits e (leb-true (span e) offsetBits (all-true (pageTests e) 4 good)))))
 
 module _ (m : List ℕ) (e : TranslationEntry) (o : ByteAddress) (w : walks e o ≡ true) where
-  walks-small : small e ≡ true
+  walks-walkable : walkable e ≡ true
   unfolding walks
-  walks-small = paged-small e (and-left (paged e) (ltb (o .0) (2 ^ span e)) w)
+  walks-walkable = paged-walkable e (and-left (paged e) (ltb (o .0) (2 ^ span e)) w)
 
   pub pages-is : (d : Direction) → byPages m e d o ≡ translated m e d o
   unfolding byPages translated
-  pages-is d = rw (w, walks-small)
+  pages-is d = rw (w, walks-walkable)

@@ -9,7 +9,7 @@ pub const PEER_WORDS: u64 = 4;
 
 pub const INTERRUPT_WORDS: u64 = 4;
 
-pub const STATE_WORDS: u64 = 3;
+pub const STATE_WORDS: u64 = 4;
 
 // The words of all windows: those of M32 first, then those of the M64 windows.
 pub const WINDOW_WORDS: u64 = 67;
@@ -30,6 +30,9 @@ pub const MOST_INTERRUPTS: u64 = 4096;
 pub const MOST_REQUESTERS: u64 = 65536;
 
 pub const MOST_MEMORY: u64 = 1048576;
+
+// The bytes of a word of memory.
+pub const WORD_BYTES: u64 = 8;
 
 // The largest table code; a table of code c has 2^(c + 8) words.
 pub const MOST_TABLE_CODE: u64 = 31;

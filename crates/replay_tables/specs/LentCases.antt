@@ -38,7 +38,7 @@ abbrev quiet : List ℕ
 quiet = 0 ∷ 0 ∷ 3 ∷ 0 ∷ 94 ∷ []
 
 abbrev running : List ℕ
-running = 0 ∷ 0 ∷ 0 ∷ 97 ∷ []
+running = 0 ∷ 0 ∷ 0 ∷ 6 ∷ 97 ∷ []
 
 abbrev pub tables : Lent
 tables = lists (0 ∷ 90 ∷ []) (5 ∷ 6 ∷ 92 ∷ []) quiet running
@@ -54,7 +54,7 @@ emptied =
     (0 ∷ 0 ∷ 0 ∷ 0 ∷ 0 ∷ [])
     (zeros windowWords ++ (0 ∷ []))
     (zeros segmentCount ++ (0 ∷ []))
-    (0 ∷ 0 ∷ 0 ∷ 0 ∷ [])
+    (0 ∷ 0 ∷ 0 ∷ 0 ∷ 0 ∷ [])
 
 pub record LentCase : Type 0 where
   pub line : Line
@@ -83,9 +83,10 @@ lentCases =
     ∷ leaves (Set Windows 67 1) tables
     ∷ leaves (Set Segments 256 1) tables
     ∷ leaves (Set Segments 255 65536) tables
-    ∷ leaves (Set State 2 8) (lists (0 ∷ 90 ∷ []) (5 ∷ 6 ∷ 92 ∷ []) quiet (0 ∷ 0 ∷ 8 ∷ 97 ∷ []))
-    ∷ leaves (Set State 3 8) tables
-    ∷ leaves (Request (Error 0)) (lists (0 ∷ 90 ∷ []) (5 ∷ 6 ∷ 92 ∷ []) quiet (3 ∷ 12 ∷ 0 ∷ 97 ∷ []))
+    ∷ leaves (Set State 2 8) (lists (0 ∷ 90 ∷ []) (5 ∷ 6 ∷ 92 ∷ []) quiet (0 ∷ 0 ∷ 8 ∷ 6 ∷ 97 ∷ []))
+    ∷ leaves (Set State 3 8) (lists (0 ∷ 90 ∷ []) (5 ∷ 6 ∷ 92 ∷ []) quiet (0 ∷ 0 ∷ 0 ∷ 8 ∷ 97 ∷ []))
+    ∷ leaves (Set State 4 8) tables
+    ∷ leaves (Request (Error 0)) (lists (0 ∷ 90 ∷ []) (5 ∷ 6 ∷ 92 ∷ []) quiet (3 ∷ 12 ∷ 0 ∷ 0 ∷ 97 ∷ []))
     ∷ leaves (Request (Priority 0 9)) (lists (0 ∷ 90 ∷ []) (5 ∷ 6 ∷ 92 ∷ []) (0 ∷ 0 ∷ 9 ∷ 0 ∷ 94 ∷ []) running)
     ∷ leaves (Request (Priority 1 9)) tables
     ∷ leaves Bad tables

@@ -55,7 +55,7 @@ size-room n m r w =
       t,
       and-left (leb 1 n) (leb n mostPes) d,
       le-leb (n * entryWords) (mostPes * entryWords) (omega (arith, pes)),
-      le-leb (n * peerWords) (mostPes * peerWords) (omega (arith, pes)),
+      -- as many words of peers as of the state
       le-leb (n * stateWords) (mostPes * stateWords) (omega (arith, pes)),
       le-leb (m * interruptWords) (mostInterrupts * interruptWords) (omega (arith, interrupts)),
       and-right (leb 1 n && leb n mostPes && leb m mostInterrupts && leb 1 r) (leb r mostRequesters) a,

@@ -7,7 +7,7 @@ use mathlib.Core.List.{List, [], _∷_, _++_, map}
 use Prim.Native.Nat.{ℕ}
 use Prim.Native.String.{String}
 use Rattle.replay_text.specs.Bytes.{bytes}
-use Rattle.kinds.specs.Answer.{numbered}
+use Rattle.kinds.specs.Answer.{numbered, refuse}
 use Rattle.kinds.specs.declared.answer.Answer.the-variants.{Pass, Msi, Held, Ones, Drop, Refuse, Done}
 use Rattle.kinds.specs.declared.answer.Numbers.{Numbers}
 use Rattle.kinds.specs.declared.answer.Reason.the-variants.{BadRequest, OutsideMemory}
@@ -31,8 +31,8 @@ rows =
     ∷ record { n = 10; numbers = numbered (Held 0x7ff); text = "10\theld\t0\t00000000000007ff\t0\n" }
     ∷ record { n = 99; numbers = numbered (Ones 0xffff); text = "99\tones\t11\t000000000000ffff\t0\n" }
     ∷ record { n = 100; numbers = numbered Drop; text = "100\tdrop\t11\t0000000000000000\t0\n" }
-    ∷ record { n = 1000000; numbers = numbered (Refuse OutsideMemory 4); text = "1000000\trefuse\t15\t0000000000000000\t4\n" }
-    ∷ record { n = 18446744073709551615; numbers = numbered (Refuse BadRequest 0); text = "18446744073709551615\trefuse\t2\t0000000000000000\t0\n" }
+    ∷ record { n = 1000000; numbers = numbered (Refuse OutsideMemory 4 (record { 0 = 0x6028 })); text = "1000000\trefuse\t15\t0000000000000000\t4\n" }
+    ∷ record { n = 18446744073709551615; numbers = numbered (refuse BadRequest); text = "18446744073709551615\trefuse\t2\t0000000000000000\t0\n" }
     ∷ record { n = 2; numbers = numbered Done; text = "2\tdone\t0\t0000000000000000\t0\n" }
     ∷ record { n = 3; numbers = badNumbers; text = "3\tbad\t0\t0000000000000000\t0\n" }
     ∷ []

@@ -59,5 +59,6 @@ pub fn bad() -> Numbers
         pe: 0,
         server: 0,
         priority: 0,
+        word: 0,
     }
 }

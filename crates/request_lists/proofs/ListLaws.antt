@@ -37,7 +37,7 @@ four-set l i a b c d =
 module _ (l : List ℕ) (k : ℕ) (a : Answer) {n : ℕ} (e : n ≡ length l / answerWords) where
   pub answer-written : {x : Numbers} {v m : List ℕ} → k < n → x ≡ numbered a
       → v ≡ sets l (k * answerWords) (x .name ∷ x .reason ∷ x .value ∷ x .words ∷ [])
-      → m ≡ sets v (k * answerWords + 4) (x .pe ∷ x .server ∷ x .priority ∷ 0 ∷ []) → m ≡ writtenIn l k a
+      → m ≡ sets v (k * answerWords + 4) (x .pe ∷ x .server ∷ x .priority ∷ x .word ∷ []) → m ≡ writtenIn l k a
   unfolding writtenIn written
   answer-written h i f g =
       let four : k * answerWords + 4 ≡ suc (suc (suc (suc (k * answerWords)))) = omega arith in

@@ -54,6 +54,6 @@ pub fn write_answer(answers: &mut [u64], k: usize, answer: Answer)
         let x = answer::in_numbers(answer);
         let at = k * layout::ANSWER_WORDS;
         write_four(answers, at, x.name, x.reason, x.value, x.words);
-        write_four(answers, at + 4, x.pe, x.server, x.priority, 0);
+        write_four(answers, at + 4, x.pe, x.server, x.priority, x.word);
     }
 }

@@ -1,4 +1,4 @@
--- Requests and answers as words, 8 for each. What a request does not use is 0 and is not read; the last word of an answer is 0.
+-- Requests and answers as words, 8 for each. What a request does not use is 0 and is not read.
 --     requestWords, answerWords   the words of one request and of one answer
 --     encoded q                   the words of request q, its kind first:
 --                                 0 dma: requester, direction (0 read, 1 write), address, length, data; 1 load, 2 store: address, width;
@@ -11,7 +11,7 @@
 --     decodedFrom l i             the request whose words stand from place i of the list of words l
 --     decodedAt l k               request k of the list of words l; requestIn l k: none where its words are not all there
 --     requestsFrom l k n          n requests of the list of words l, from request k
---     numberList x                the 8 words of an answer: name, reason, value, words read, PE, server, priority, as `numbered` has them, and 0
+--     numberList x                the 8 words of an answer: name, reason, value, words read, PE, server, priority, table word, as `numbered` has them
 --     answerList a                the words of answer a; answersOf l: of the answers of list l, one after the other
 --     over y x                    the words y in the place of the first words of x
 --     wordsAt x k                 the words of answer k in the answer words x
@@ -108,7 +108,7 @@ requestsFrom l k (suc n) = decodedAt l k ∷ requestsFrom l (suc k) n
 -- ---- answers
 
 abbrev pub numberList : Numbers → List ℕ
-numberList x = x .name ∷ x .reason ∷ x .value ∷ x .words ∷ x .pe ∷ x .server ∷ x .priority ∷ 0 ∷ []
+numberList x = x .name ∷ x .reason ∷ x .value ∷ x .words ∷ x .pe ∷ x .server ∷ x .priority ∷ x .word ∷ []
 
 abbrev pub answerList : Answer → List ℕ
 answerList a = numberList (numbered a)

@@ -56,7 +56,7 @@ rows-hold = refl
 pub largest-brought : Brought (dma Write 0xFFFFFFFF ∷ [])
 largest-brought q m = let e : q .«data» ≡ 0xFFFFFFFF = cc (List·Memᴰ·eq-of-singleton m) in omega arith
 
-pub answer-holds : numberList (record { name = 11; reason = 12; value = 13; words = 14; pe = 15; server = 16; priority = 17 }) ≡ eight 11 12 13 14 15 16 17 0
+pub answer-holds : numberList (record { name = 11; reason = 12; value = 13; words = 14; pe = 15; server = 16; priority = 17; word = 18 }) ≡ eight 11 12 13 14 15 16 17 18
 answer-holds = refl
 
 unfoldable pub nameless : List (List ℕ)

@@ -60,7 +60,7 @@ answerFrom : List ℕ → Answer
 answerFrom w =
     lib.ListN.getD
     (Pass (record { 0 = at w 2 }) (record { 0 = at w 4 }) (at w 3) ∷ Msi (at w 2) (at w 5) (at w 6) ∷ Held (at w 2) ∷ Ones (at w 2) ∷ Drop
-    ∷ Refuse (reasonFrom (at w 1)) (at w 3) ∷ [])
+    ∷ Refuse (reasonFrom (at w 1)) (at w 3) (record { 0 = at w 7 }) ∷ [])
     (at w 0) Done
 
 answer-back : (a : Answer) → answerFrom (answerList a) ≡ a
@@ -70,7 +70,7 @@ answer-back (Msi n s p) = refl
 answer-back (Held n) = refl
 answer-back (Ones v) = refl
 answer-back Drop = refl
-answer-back (Refuse r n) = rw (reason-back r)
+answer-back (Refuse r n w) = rw (reason-back r)
 answer-back Done = refl
 
 pub numbered-injective : (a b : Answer) → answerList a ≡ answerList b → a ≡ b

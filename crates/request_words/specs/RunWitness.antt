@@ -18,7 +18,7 @@ use borrow.Author.Tests.{eqb-true}
 use Rattle.kinds.specs.declared.number.PeNumber.{PeNumber}
 use Rattle.isolation.specs.View.{Bridge, Written, View}
 use Rattle.profile.specs.Agree.{Closed}
-use Rattle.profile.specs.Case.{plain, stateRow, calm, idle, states, read, write}
+use Rattle.profile.specs.Case.{plain, wordRow, calm, idle, states, read, write}
 use Rattle.profile.specs.Cases.{memoryA}
 use Rattle.profile.specs.Opened.{opened}
 use Rattle.profile.specs.Tables.{peerWords}
@@ -34,7 +34,7 @@ abbrev pub first : Bridge
 first = record { tables = plain; memory = memoryA; live = idle }
 
 abbrev pub second : Bridge
-second = record { tables = plain; memory = memoryA; live = states (stateRow 3 8 77) calm calm (stateRow 3 12 6) }
+second = record { tables = plain; memory = memoryA; live = states (wordRow 3 8 77 0x2018) calm calm (wordRow 3 12 6 9) }
 
 -- PE 3's error message, PE 2's DMA, words that name no request, PE 2's MSI
 unfoldable pub asked : List ℕ
@@ -80,6 +80,7 @@ view = record {
     stop-bits = λ p g. rw (member p g);
     reason = λ p g. rw (member p g);
     value = λ p g. rw (member p g);
+    failed = λ p g. rw (member p g);
     interrupts = λ i h g. refl;
   };
   entries = λ p g i h. refl;

@@ -34,7 +34,7 @@ said =
     says (eight 0 5 0 0x3ABC 4 0 0 0) (eight 0 0 0x12345ABC 1 2 0 0 0)
     -- B
     ∷ says (eight 0 5 1 0x1FFFFF 1 0 0 0) (eight 0 0 0x77777FFF 1 2 0 0 0)
-    ∷ says (eight 0 5 0 0x1FFFFF 1 0 0 0) (eight 5 8 0 1 0 0 0 0)
+    ∷ says (eight 0 5 0 0x1FFFFF 1 0 0 0) (eight 5 8 0 1 0 0 0 0x2FF8)
     -- C
     ∷ says (eight 0 5 0 0x200000 4 0 0 0) (eight 5 7 0 0 0 0 0 0)
     -- D

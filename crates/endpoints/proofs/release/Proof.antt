@@ -49,6 +49,12 @@ add-put-3 c = search needs
 put-requires-4 : tie.Need-put-requires-4
 put-requires-4 c κs = search needs
 
+add-put-4 : tie.Need-add-put-4
+add-put-4 c = search needs
+
+put-requires-5 : tie.Need-put-requires-5
+put-requires-5 c κs = search needs
+
 same-length : tie.Need-same-length
 same-length c = search needs
 
@@ -86,6 +92,8 @@ release-spec =
     put-requires-3
     add-put-3
     put-requires-4
+    add-put-4
+    put-requires-5
     same-length
     returns
     same-length-2

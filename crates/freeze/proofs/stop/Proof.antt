@@ -25,17 +25,8 @@ add-put c = search needs
 put-requires : tie.Need-put-requires
 put-requires c κs = search needs
 
-add-put-2 : tie.Need-add-put-2
-add-put-2 c = search needs
-
-put-requires-2 : tie.Need-put-requires-2
-put-requires-2 c κs = search needs
-
-add-put-3 : tie.Need-add-put-3
-add-put-3 c = search needs
-
-put-requires-3 : tie.Need-put-requires-3
-put-requires-3 c κs = search needs
+record-requires : tie.Need-record-requires
+record-requires c κs = search needs
 
 same-length : tie.Need-same-length
 same-length c = search needs
@@ -60,10 +51,7 @@ stop-spec =
     mul-put
     add-put
     put-requires
-    add-put-2
-    put-requires-2
-    add-put-3
-    put-requires-3
+    record-requires
     same-length
     returns
     same-length-2

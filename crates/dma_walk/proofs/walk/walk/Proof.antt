@@ -1,9 +1,10 @@
 -- `dma_walk::walk::walk` meets its contract. The invariant: the walk from the top is the walk of the levels that are left, after the words read
 -- so far. The measure is the number of levels that are left. Assumes nothing.
 use mathlib.Core.Path.{_≡_}
+use mathlib.Core.Bool.{true}
 use Prim.Native.Nat.{_+_, _*_, _≤_}
 use borrow.Author.Needs.{needs}
-use Rattle.profile.specs.Entry.{offsetBits, mostTableCode, codeBits, mostLevels}
+use Rattle.profile.specs.Entry.{aligned, offsetBits, mostTableCode, codeBits, mostLevels}
 use Rattle.profile.specs.Walk.{walkFrom}
 use Rattle.dma_walk.specs.Turn.{counted}
 use Rattle.dma_walk.specs.LoopLaws.{later}
@@ -13,7 +14,7 @@ use Rattle.dma_walk.proofs.walk.walk.Tie as tie
 
 abbrev Inv-loop : tie.InvT-loop
 Inv-loop memory page bits base₀ below₀ words₀ base below words =
-    (below + words ≤ mostLevels) × (bits ≤ mostTableCode + codeBits) × (bits * below ≤ offsetBits) ×
+    (below + words ≤ mostLevels) × (bits ≤ mostTableCode + codeBits) × (bits * below ≤ offsetBits) × (aligned bits base ≡ true) ×
     (counted (walkFrom memory below₀ bits base₀ page) ≡ later words (counted (walkFrom memory below bits base page)))
 
 abbrev μ-loop : tie.MeasureT-loop
@@ -41,7 +42,7 @@ loop-less : tie.Need-loop-less Inv-loop μ-loop
 loop-less c = search needs
 
 loop-again : tie.Need-loop-again Inv-loop μ-loop
-loop-again c = search (needs, laws.shift-less, laws.lower)
+loop-again c = search (needs, laws.shift-less, laws.lower-aligned, laws.lower)
 
 enum-known-found : tie.Need-enum-known-found Inv-loop μ-loop
 enum-known-found c = search needs

@@ -4,8 +4,8 @@ use borrow.Author.Needs.{needs}
 use Rattle.dma_walk.proofs.walk.walk_page.Statement.{statement}
 use Rattle.dma_walk.proofs.walk.walk_page.Tie as tie
 
-is-small-requires : tie.Need-is-small-requires
-is-small-requires c κs = search needs
+is-walkable-requires : tie.Need-is-walkable-requires
+is-walkable-requires c κs = search needs
 
 walk-requires : tie.Need-walk-requires
 walk-requires c κs = search laws.page-shaped
@@ -17,4 +17,4 @@ returns-2 : tie.Need-returns-2
 returns-2 c = search laws.page-none
 
 pub walk-page-spec : {M : Type 1} → statement M
-walk-page-spec = tie.close (tie.spec is-small-requires walk-requires returns returns-2)
+walk-page-spec = tie.close (tie.spec is-walkable-requires walk-requires returns returns-2)

@@ -7,8 +7,8 @@ use Rattle.kinds.proofs.answer.in_numbers.Tie as tie
 enum-known-answer : tie.Need-enum-known-answer
 enum-known-answer c = search needs
 
-cast-t13 : tie.Need-cast-t13
-cast-t13 c = search needs
+cast-t14 : tie.Need-cast-t14
+cast-t14 c = search needs
 
 enum-known-answer-2 : tie.Need-enum-known-answer-2
 enum-known-answer-2 c = search needs
@@ -37,14 +37,11 @@ enum-known-answer-5 c = search needs
 reason-number-requires : tie.Need-reason-number-requires
 reason-number-requires c κs = search needs
 
-plain-requires-4 : tie.Need-plain-requires-4
-plain-requires-4 c κs = search needs
-
 enum-told-2 : tie.Need-enum-told-2
 enum-told-2 c = search needs
 
-plain-requires-5 : tie.Need-plain-requires-5
-plain-requires-5 c κs = search needs
+plain-requires-4 : tie.Need-plain-requires-4
+plain-requires-4 c κs = search needs
 
 returns : tie.Need-returns
 returns c = search laws.case
@@ -72,7 +69,7 @@ in-numbers-spec =
     tie.close
     (tie.spec
     enum-known-answer
-    cast-t13
+    cast-t14
     enum-known-answer-2
     enum-known-answer-3
     plain-requires
@@ -82,9 +79,8 @@ in-numbers-spec =
     plain-requires-3
     enum-known-answer-5
     reason-number-requires
-    plain-requires-4
     enum-told-2
-    plain-requires-5
+    plain-requires-4
     returns
     returns-2
     returns-3
