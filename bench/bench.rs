@@ -10,9 +10,9 @@
 //
 // Compiled with `--cfg base` it has the proved code of another commit too: the three are the plain
 // bridge on words, the base and the new code. The base has to take the arguments of
-// `host/celltimber.rs`, with the same words in tables, requests and answers; of a PE's state it may
-// lack the last words. It then knows no word that a walk stopped at, and what it lacks is not
-// compared.
+// `host/celltimber.rs`, with the same words in tables, requests and answers; it may lack the
+// installed size, under which no work is refused. Of a PE's state it may lack the last words: it
+// then knows no word that a walk stopped at, and what it lacks is not compared.
 //
 // The requests come in batches. All three serve a batch before the next one is made. They take
 // turns at being first, and at each of the three copies of the tables. Answers and words are
@@ -32,18 +32,18 @@ mod plain_words;
 #[allow(dead_code)]
 mod random;
 
-/// The function of the base. `bench/run` writes the included file: the base's own
-/// `host/celltimber.rs`, with the symbol of the base.
+/// The function of the base. `bench/run` writes both files: the base's own `host/celltimber.rs`, with
+/// the symbol of the base, and `tests/plain_words.rs` with the arguments of the base.
 #[cfg(base)]
-#[path = "."]
 #[allow(dead_code)]
 mod base {
     use super::bridge;
     pub mod celltimber {
         include!("../target/bench/base/celltimber.rs");
     }
-    #[path = "../tests/plain_words.rs"]
-    pub mod plain_words;
+    pub mod plain_words {
+        include!("../target/bench/base/plain_words.rs");
+    }
 }
 
 use bridge::{Answer, Bridge, Name, Part, Request};
@@ -146,6 +146,7 @@ fn works() -> Vec<Work> {
         dma_work("dma-1-level-reads", 1, 1),
         dma_work("dma-2-level-reads", 2, 1),
         dma_work("dma-3-level-reads", 3, 1),
+        dma_work("dma-bypass", 0, 2),
         Work { to_a_call: 1, ..dma_work("dma-1-one-a-call", 1, 2) },
         load_work("load-others-empty", [0, 0, 0], [0, 0, 0, 0]),
         load_work("load-others-elsewhere", [0, 1 << 32, 0], [1 << 40, WINDOW_SIZE, 1, 0]),
@@ -180,7 +181,7 @@ fn works() -> Vec<Work> {
 fn refused_work(name: &'static str) -> Work {
     Work {
         name,
-        tables: Bridge::new(PES, 0, REQUESTERS, 0),
+        tables: Bridge::new(PES, 0, REQUESTERS, INSTALLED, 0),
         bridges: 1,
         batches: 1_000,
         to_a_call: ALL,
@@ -200,15 +201,18 @@ fn thousand(request: impl FnMut() -> RequestWords) -> Vec<RequestWords> {
 const PES: u64 = 4;
 const REQUESTERS: u64 = 64;
 
+/// The installed size, 4 GiB. No DMA goes above it.
+const INSTALLED: u64 = 1 << 32;
+
 /// Words of a table of code 1, and the tables at each level below the first.
 const TABLE_WORDS: u64 = 512;
 const LOWER_TABLES: u64 = 2;
 
-/// The directions are 1, reads alone, or 2.
+/// With no level it is a bypass. The directions are 1, reads alone, or 2.
 fn dma_work(name: &'static str, levels: u64, directions: u64) -> Work {
     Work {
         name,
-        tables: dma_tables(levels),
+        tables: if levels == 0 { bypass_tables() } else { dma_tables(levels) },
         bridges: 1,
         batches: 1_000,
         to_a_call: ALL,
@@ -222,7 +226,8 @@ fn dma_work(name: &'static str, levels: u64, directions: u64) -> Work {
 fn dma_tables(levels: u64) -> Bridge {
     let mut random = Random(levels);
     let tables_of_record = 1 + (levels - 1) * LOWER_TABLES;
-    let mut t = Bridge::new(PES, 0, REQUESTERS, 2 * PES * tables_of_record * TABLE_WORDS);
+    let memory_words = 2 * PES * tables_of_record * TABLE_WORDS;
+    let mut t = Bridge::new(PES, 0, REQUESTERS, INSTALLED, memory_words);
     for (k, pe) in t.requesters.iter_mut().enumerate() {
         *pe = k as u16 % PES as u16;
     }
@@ -237,7 +242,10 @@ fn dma_tables(levels: u64) -> Bridge {
             let last = lower >= first + tables_of_record;
             for word in 0..TABLE_WORDS {
                 let next = lower + random.below(LOWER_TABLES);
-                let high = if last { random.next() & !0xFFF } else { 8 * TABLE_WORDS * next };
+                let high = match last {
+                    true => random.below(INSTALLED) & !0xFFF,
+                    false => 8 * TABLE_WORDS * next,
+                };
                 let low = random.below(0x400) << 2 | if last { 3 } else { 1 + random.below(3) };
                 t.memory[((first + table) * TABLE_WORDS + word) as usize] = high | low;
             }
@@ -246,11 +254,24 @@ fn dma_tables(levels: u64) -> Bridge {
     t
 }
 
-/// A DMA of the DMA class that any entry of `dma_tables` passes.
+/// Two records to each PE, both a bypass of all that is installed.
+fn bypass_tables() -> Bridge {
+    let mut t = Bridge::new(PES, 0, REQUESTERS, INSTALLED, 0);
+    for (k, pe) in t.requesters.iter_mut().enumerate() {
+        *pe = k as u16 % PES as u16;
+    }
+    for record in t.translation.chunks_mut(4) {
+        record.copy_from_slice(&[0, INSTALLED >> 24, 1, 0]);
+    }
+    t
+}
+
+/// A DMA of the DMA class that any entry of these tables passes.
 fn passing_dma(random: &mut Random, levels: u64, directions: u64) -> RequestWords {
     let second = random.below(2);
     let page_bits = if second == 0 { 12 } else { 16 };
-    let address = second << 59 | random.below(1 << (page_bits + 9 * levels));
+    let reach = if levels == 0 { INSTALLED } else { 1 << (page_bits + 9 * levels) };
+    let address = second << 59 | random.below(reach);
     if address >> 16 == 0xFFFF {
         return passing_dma(random, levels, directions);
     }
@@ -267,7 +288,7 @@ const WINDOW_SIZE: u64 = 1 << 40;
 
 /// Every window but M64 15 is closed or elsewhere, and has these words.
 fn load_work(name: &'static str, m32: [u64; 3], m64: [u64; 4]) -> Work {
-    let mut tables = Bridge::new(256, 0, REQUESTERS, 0);
+    let mut tables = Bridge::new(256, 0, REQUESTERS, INSTALLED, 0);
     tables.windows[..3].copy_from_slice(&m32);
     for window in tables.windows[3..].chunks_mut(4) {
         window.copy_from_slice(&m64);
@@ -317,7 +338,7 @@ fn msi_work(name: &'static str) -> Work {
 /// Interrupt k is of PE k mod 4, as requester k is.
 fn interrupt_tables() -> Bridge {
     let mut random = Random(0);
-    let mut t = Bridge::new(PES, INTERRUPTS, REQUESTERS, 0);
+    let mut t = Bridge::new(PES, INTERRUPTS, REQUESTERS, INSTALLED, 0);
     for (k, pe) in t.requesters.iter_mut().enumerate() {
         *pe = k as u16 % PES as u16;
     }
@@ -339,7 +360,7 @@ fn msi(random: &mut Random, number: u64) -> RequestWords {
 
 /// 256 PEs and a requester of each; every peer vector names all PEs.
 fn peer_tables() -> Bridge {
-    let mut t = Bridge::new(256, 0, 256, 0);
+    let mut t = Bridge::new(256, 0, 256, INSTALLED, 0);
     for (k, pe) in t.requesters.iter_mut().enumerate() {
         *pe = k as u16;
     }
@@ -350,7 +371,7 @@ fn peer_tables() -> Bridge {
 /// A DMA of each of 16 PEs among `pes`; its class is not served. No PE has peers: a bridge on which
 /// a refusal stops peers leaves the same words.
 fn freeze_alone_work(name: &'static str, pes: u64) -> Work {
-    let mut tables = Bridge::new(pes, 0, pes, 0);
+    let mut tables = Bridge::new(pes, 0, pes, INSTALLED, 0);
     for (k, pe) in tables.requesters.iter_mut().enumerate() {
         *pe = k as u16;
     }

@@ -6,7 +6,7 @@
  *                        and whether the premises of isolation hold of given tables.
  *
  * Arguments. A slice is two arguments: a pointer to its first element, and right after it its length, which counts elements and not bytes. N (PEs),
- * M (interrupts) and R (requesters) come first, then the tables.
+ * M (interrupts) and R (requesters) come first, of celltimber_run then the installed size; then the tables.
  *
  * Proved, for every number, every length and every word: the call ends, reads and writes inside the slices alone, and its result and each word that it
  * leaves are those of the definition. Nothing has to be checked before a call: tables of a wrong length are answered with reason 1, a badly formed request
@@ -116,7 +116,8 @@ enum celltimber_reason {
     CELLTIMBER_REASON_ERROR_MESSAGE = 12,    /* in an error record alone: an error message froze the PE */
     CELLTIMBER_REASON_FROZEN_AS_PEER = 13,   /* in an error record alone: the PE was frozen as a peer */
     CELLTIMBER_REASON_BAD_FIRMWARE = 14,     /* firmware names no PE or no good interrupt */
-    CELLTIMBER_REASON_OUTSIDE_MEMORY = 15    /* a table word is outside the lent memory; freezes */
+    CELLTIMBER_REASON_OUTSIDE_MEMORY = 15,   /* a table word is outside the lent memory; freezes */
+    CELLTIMBER_REASON_ABOVE_INSTALLED = 17   /* the last byte of a DMA is at or above the installed size; freezes */
 };
 
 /* ---- Numbers of the tables ---- */
@@ -190,6 +191,10 @@ enum celltimber_table {
  *
  * A replay text names its tables by the same words, but for entries, which are 'translation' there.
  *
+ * installed is the installed size: the bytes of system memory, from address 0. A DMA that would pass and whose last byte is at or above it is refused with
+ * reason 17. Every number is good: none is reason 1, 0 refuses every DMA that would pass, and UINT64_MAX only one that reaches byte 2^64 - 1. It is public,
+ * and the same through a sequence, as N is. The length of memory is another matter: no table word is tested against the installed size.
+ *
  * Written: in state the words of a PE that is frozen or released, in interrupts the priority and 2P + Q of an interrupt that an MSI or firmware changes,
  * in answers the words of the answers. All other words stay, those of the lists after the last whole answer too.
  */
@@ -197,6 +202,7 @@ size_t celltimber_run(
     uint64_t pes,
     uint64_t interrupt_count,
     uint64_t requester_count,
+    uint64_t installed,
     const uint16_t *requesters, size_t requesters_length,
     const uint64_t *entries, size_t entries_length,
     const uint64_t *memory, size_t memory_length,

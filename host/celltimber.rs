@@ -98,6 +98,7 @@ pub const REASON_ERROR_MESSAGE: u64 = 12;
 pub const REASON_FROZEN_AS_PEER: u64 = 13;
 pub const REASON_BAD_FIRMWARE: u64 = 14;
 pub const REASON_OUTSIDE_MEMORY: u64 = 15;
+pub const REASON_ABOVE_INSTALLED: u64 = 17;
 
 // ---- Tables ----
 
@@ -151,6 +152,7 @@ extern "C" {
         pes: u64,
         interrupt_count: u64,
         requester_count: u64,
+        installed: u64,
         requesters: *const u16,
         requesters_length: usize,
         entries: *const u64,
@@ -175,11 +177,14 @@ extern "C" {
 }
 
 /// Serves as many whole requests as `requests` and `answers` both hold; returns their number.
+/// `installed` is the installed size, the bytes of system memory: any number. A DMA that would pass
+/// and whose last byte is at or above it is refused with reason 17.
 #[allow(clippy::too_many_arguments)]
 pub fn run(
     pes: u64,
     interrupt_count: u64,
     requester_count: u64,
+    installed: u64,
     requesters: &[u16],
     entries: &[u64],
     memory: &[u64],
@@ -197,6 +202,7 @@ pub fn run(
             pes,
             interrupt_count,
             requester_count,
+            installed,
             requesters.as_ptr(),
             requesters.len(),
             entries.as_ptr(),

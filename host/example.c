@@ -20,9 +20,9 @@ int main(void)
     record[3] = 1;                   /* page code 1: 4 KiB */
     memory[0x2018 / 8] = 0x12345003; /* word 3 of the table: page 0x12345, reads and writes allowed */
 
-    /* 4 PEs, no interrupts, 8 requesters */
-    if (celltimber_run(4, 0, 8, requesters, LENGTH(requesters), entries, LENGTH(entries), memory, LENGTH(memory), peers, LENGTH(peers), NULL, 0, windows,
-            LENGTH(windows), segments, LENGTH(segments), state, LENGTH(state), request, LENGTH(request), answer, LENGTH(answer)) != 1)
+    /* 4 PEs, no interrupts, 8 requesters, 4 GiB of installed memory */
+    if (celltimber_run(4, 0, 8, 0x100000000, requesters, LENGTH(requesters), entries, LENGTH(entries), memory, LENGTH(memory), peers, LENGTH(peers), NULL, 0,
+            windows, LENGTH(windows), segments, LENGTH(segments), state, LENGTH(state), request, LENGTH(request), answer, LENGTH(answer)) != 1)
         return 1;
     printf("answer %" PRIu64 " reason %" PRIu64 " value 0x%" PRIX64 " words %" PRIu64 " PE %" PRIu64 "\n", answer[CELLTIMBER_AT_NAME],
         answer[CELLTIMBER_AT_REASON], answer[CELLTIMBER_AT_VALUE], answer[CELLTIMBER_AT_WORDS], answer[CELLTIMBER_AT_PE]);

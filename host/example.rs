@@ -20,11 +20,12 @@ fn main() {
     // Word 3 of the table: page 0x12345, reads and writes allowed.
     memory[0x2018 / 8] = 0x1234_5003;
 
-    // 4 PEs, no interrupts, 8 requesters.
+    // 4 PEs, no interrupts, 8 requesters, 4 GiB of installed memory.
     run(
         4,
         0,
         8,
+        1 << 32,
         &requesters,
         &entries,
         &memory,

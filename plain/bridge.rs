@@ -99,6 +99,8 @@ pub struct Bridge {
     pub m: u64,
     /// Number of requesters, 1..65536.
     pub r: u64,
+    /// Bytes of installed memory, any number. No DMA reaches a byte at or above it.
+    pub installed: u64,
     /// PE of each requester; n or more means none.
     pub requesters: Vec<u16>,
     /// Two records to each PE: base, levels, table code, page code.
@@ -119,11 +121,12 @@ pub struct Bridge {
 
 impl Bridge {
     /// A bridge of the given sizes with every word 0.
-    pub fn new(n: u64, m: u64, r: u64, memory_words: u64) -> Bridge {
+    pub fn new(n: u64, m: u64, r: u64, installed: u64, memory_words: u64) -> Bridge {
         Bridge {
             n,
             m,
             r,
+            installed,
             requesters: vec![0; r as usize],
             translation: vec![0; 8 * n as usize],
             memory: vec![0; memory_words as usize],
@@ -225,6 +228,11 @@ impl Bridge {
                 self.msi(pe, write, address, length, number)
             }
             0 => match self.translate(pe, write, address) {
+                // The last byte is in the page of the first, and so is below 2^64.
+                Ok((system_address, words)) if system_address + (length - 1) >= self.installed => {
+                    self.stop(pe, 17, address, 0);
+                    refuse(17, words)
+                }
                 Ok((system_address, words)) => pass(system_address, pe as u64, words),
                 Err((reason, words, word)) => {
                     self.stop(pe, reason, address, word);

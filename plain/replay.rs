@@ -43,6 +43,9 @@ pub enum Outcome {
     Bad,
 }
 
+/// Bytes of installed memory, on every bridge of a replay: 4 GiB.
+pub const INSTALLED: u64 = 1 << 32;
+
 /// The most fields a line can have: a dma line.
 const MOST_FIELDS: usize = 6;
 
@@ -147,7 +150,7 @@ pub fn take(bridge: &mut Bridge, line: &[u8]) -> Outcome {
             if n < 1 || n > 16 || m > 64 || r < 1 || r > 64 || memory_words > 4_096 {
                 return Outcome::Bad;
             }
-            *bridge = Bridge::new(n, m, r, memory_words);
+            *bridge = Bridge::new(n, m, r, INSTALLED, memory_words);
             Outcome::Silent
         }
         Some(Line::Set { table, index, value }) => {
@@ -208,7 +211,7 @@ fn place(name: Name) -> usize {
 #[derive(Default)]
 pub struct Counts {
     answers: [u64; 8],
-    reasons: [u64; 16],
+    reasons: [u64; 18],
 }
 
 impl Counts {
@@ -217,7 +220,7 @@ impl Counts {
         for (name, count) in ANSWERS.iter().zip(&self.answers) {
             writeln!(out, "{}\t{}", name, count)?;
         }
-        for reason in (1..=11).chain(14..=15) {
+        for reason in (1..=11).chain([14, 15, 17]) {
             writeln!(out, "reason-{}\t{}", reason, self.reasons[reason])?;
         }
         Ok(())

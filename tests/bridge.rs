@@ -49,6 +49,9 @@ fn done() -> AnswerWords {
 const FIRST: usize = 0;
 const SECOND: usize = 1;
 
+/// The installed size of the cases and of the replay program: 4 GiB.
+const GIB_4: u64 = 0x1_0000_0000;
+
 /// Stands in answer words before a call.
 const UNWRITTEN: u64 = 0x5555_AAAA_5555_AAAA;
 
@@ -57,6 +60,7 @@ struct Tables {
     pes: u64,
     interrupt_count: u64,
     requester_count: u64,
+    installed: u64,
     requesters: Vec<u16>,
     entries: Vec<u64>,
     memory: Vec<u64>,
@@ -82,12 +86,13 @@ fn frozen(pe: usize, reason: u64, value: u64, word: u64) -> [Change; 4] {
 }
 
 impl Tables {
-    /// Tables of these sizes with every word 0.
+    /// Tables of these sizes with every word 0. The installed size is the largest.
     fn new(n: usize, m: usize, r: usize, memory_words: usize) -> Tables {
         let mut tables = Tables {
             pes: 0,
             interrupt_count: 0,
             requester_count: 0,
+            installed: u64::MAX,
             requesters: Vec::new(),
             entries: Vec::new(),
             memory: Vec::new(),
@@ -145,6 +150,7 @@ impl Tables {
             self.pes,
             self.interrupt_count,
             self.requester_count,
+            self.installed,
             &self.requesters,
             &self.entries,
             &self.memory,
@@ -242,9 +248,11 @@ fn same<T: PartialEq + std::fmt::LowerHex>(name: &str, given: &[T], wanted: &[T]
 
 // ---- Cases A to J ----
 
-/// N=4, requester 5 is PE 2, its first record is 0x2000, 1, 1, 1. Memory is 32 KiB.
+/// N=4, requester 5 is PE 2, its first record is 0x2000, 1, 1, 1. Memory is 32 KiB; 4 GiB are
+/// installed.
 fn of_the_cases() -> Tables {
     let mut t = Tables::new(4, 8, 8, 0x1000);
+    t.installed = GIB_4;
     t.requesters[5] = 2;
     t.set_entry(2, FIRST, [0x2000, 1, 1, 1]);
     t
@@ -458,14 +466,17 @@ fn full_size_peers() {
     // Peers of peers.
     t.peers[4 * 254 + 3] = 1 << 61;
     let peers = [(0, 13, 255), (64, 13, 255), (191, 13, 255), (192, 13, 255), (254, 13, 255)];
-    // A refusal stops none of them. The second record has a table past memory, or none.
+    // A refusal stops none of them. The second record has a table past memory, or none; the first
+    // leads to a page that is not installed.
     t.set_entry(255, SECOND, [0x80_0000, 1, 1, 1]);
+    t.installed = 0xABCD_E000;
     let refused = [
         (0x2000_0000_0000_0000, refuse(5, 0)),
         (0x20_0000, refuse(7, 0)),
         (0x1000, refuse_at(0x7F_F008, 8, 1)),
         (NARROW, refuse(9, 0)),
         (1 << 59, refuse_at(0x80_0000, 15, 0)),
+        (0x1F_F000, refuse(17, 1)),
     ];
     for (address, answer) in refused {
         let request = dma(65_535, READ, address, 4, 0);
@@ -1032,7 +1043,7 @@ fn word_by_the_count() {
 }
 
 /// Each reason that freezes but 12, by a read of PE 2: the address and the answer.
-fn that_freeze() -> [(u64, AnswerWords); 7] {
+fn that_freeze() -> [(u64, AnswerWords); 8] {
     [
         (0x2000_0000_0000_0000, refuse(5, 0)),
         (0x0800_0000_0000_0000, refuse(6, 0)),
@@ -1041,14 +1052,16 @@ fn that_freeze() -> [(u64, AnswerWords); 7] {
         (by_index(1, 1, 2), refuse_at(0x4010, 8, 3)),
         (0xFFFF_0070, refuse(9, 0)),
         (by_index(3, 0, 2), refuse_at(0x8000, 15, 1)),
+        (by_index(1, 1, 5), refuse(17, 3)),
     ]
 }
 
-/// The tables of `of_three_levels`, where index 3 leads out of memory. PE 3 is the peer of PE 2, and
-/// both have these words.
+/// The tables of `of_three_levels`, where index 3 leads out of memory, and index 5 at the last level
+/// to the first page that is not installed. PE 3 is the peer of PE 2, and both have these words.
 fn with_state(words: [u64; 4]) -> Tables {
     let mut t = of_three_levels();
     t.set_word(0x2018, 0x8001);
+    t.set_word(0x4028, GIB_4 | 3);
     t.peers[8] = 1 << 3;
     t.state[8..12].copy_from_slice(&words);
     t.state[12..].copy_from_slice(&words);
@@ -1114,6 +1127,258 @@ fn word_in_a_list() {
     ];
     let (requests, answers): (Vec<RequestWords>, Vec<AnswerWords>) = served.into_iter().unzip();
     t.check_list(&requests, &answers, &frozen(2, 8, by_index(1, 1, 2), 0x4010));
+}
+
+// ---- The installed size ----
+
+/// A DMA of PE 2 under each of these sizes: it passes to this address, or is 17 after as many words.
+/// Nothing but the PE is stopped by it.
+#[track_caller]
+fn under(t: &Tables, sizes: &[u64], request: RequestWords, passes: Option<u64>, words: u64) {
+    for &installed in sizes {
+        let mut t = Tables { installed, ..t.clone() };
+        match passes {
+            Some(address) => t.keeps(request, pass(address, 2, words)),
+            None => t.freezes(request, refuse(17, words), &[(2, 17, request[3])]),
+        }
+    }
+}
+
+/// The rows of `docs/HOST.md`, 'The installed size', are among these.
+#[test]
+fn installed_in_a_page() {
+    // Case A: the bytes 0x12345ABC to 0x12345ABF.
+    let mut t = of_the_cases();
+    t.set_word(0x2018, 0x1234_5003);
+    for direction in [READ, WRITE] {
+        let request = dma(5, direction, 0x3ABC, 4, 0);
+        let small = [0, 1, 4, 0x3AC0, 0x1000_0000, 0x1234_5000, 0x1234_5ABB, 0x1234_5ABC];
+        under(&t, &small, request, None, 1);
+        under(&t, &[0x1234_5ABD, 0x1234_5ABE, 0x1234_5ABF], request, None, 1);
+        let enough = [0x1234_5AC0, 0x1234_5AC1, 0x1234_6000, GIB_4, 1 << 63, u64::MAX];
+        under(&t, &enough, request, Some(0x1234_5ABC), 1);
+    }
+    // One byte, and a whole block.
+    let byte = dma(5, READ, 0x3000, 1, 0);
+    under(&t, &[0x1234_5000], byte, None, 1);
+    under(&t, &[0x1234_5001], byte, Some(0x1234_5000), 1);
+    let block = dma(5, READ, 0x3000, 4_096, 0);
+    under(&t, &[0x1234_5001, 0x1234_5800, 0x1234_5FFF], block, None, 1);
+    under(&t, &[0x1234_6000], block, Some(0x1234_5000), 1);
+}
+
+#[test]
+fn installed_in_pages_of_each_size() {
+    // The last page below 4 GiB and the first one above: the byte before the border, and that at it.
+    let page_codes = [(1, 0x1000), (5, 0x1_0000), (13, 0x100_0000), (17, 0x1000_0000)];
+    for (code, bytes) in page_codes {
+        let mut t = of_the_cases();
+        t.set_entry(2, FIRST, [0x2000, 1, 1, code]);
+        t.set_word(0x2008, 0xFFFF_FFFF);
+        t.set_word(0x2010, GIB_4 | 3);
+        t.keeps(dma(5, READ, 2 * bytes - 1, 1, 0), pass(0xFFFF_FFFF, 2, 1));
+        t.keeps(dma(5, WRITE, 2 * bytes - 4_096, 4_096, 0), pass(0xFFFF_F000, 2, 1));
+        for (address, length) in [(2 * bytes, 1), (2 * bytes, 4_096), (3 * bytes - 1, 1)] {
+            let request = dma(5, READ, address, length, 0);
+            t.would_freeze(request, refuse(17, 1), (2, 17, address));
+        }
+        // With one byte more and one less.
+        under(&t, &[GIB_4 + 1], dma(5, READ, 2 * bytes, 1, 0), Some(GIB_4), 1);
+        under(&t, &[GIB_4 + 1], dma(5, READ, 2 * bytes, 2, 0), None, 1);
+        under(&t, &[GIB_4 - 1], dma(5, READ, 2 * bytes - 1, 1, 0), None, 1);
+        under(&t, &[GIB_4 - 1], dma(5, READ, 2 * bytes - 2, 1, 0), Some(GIB_4 - 2), 1);
+    }
+}
+
+#[test]
+fn installed_counts_the_levels() {
+    // A table that leads to itself at each level; its page is 0x1000.
+    for levels in 1..=5 {
+        let mut t = of_the_cases();
+        t.set_entry(2, FIRST, [0x1000, levels, 1, 1]);
+        t.set_word(0x1000, 0x1003);
+        let request = dma(5, WRITE, 0x123, 4, 0);
+        under(&t, &[0, 0x123, 0x1000, 0x1126], request, None, levels);
+        under(&t, &[0x1127, GIB_4], request, Some(0x1123), levels);
+    }
+}
+
+#[test]
+fn installed_in_a_bypass() {
+    // Case G: 16 to 32 MiB by the second record, and the same by the first. Bit 59 is not in the
+    // system address.
+    let mut t = of_the_cases();
+    for (record, half) in [(FIRST, 0), (SECOND, 1 << 59)] {
+        t.set_entry(2, record, [1, 2, 1, 0]);
+        let last = dma(5, READ, half | 0x1FF_FFFF, 1, 0);
+        under(&t, &[0, 1, 0x100_0000, 0x1FF_FFFE, 0x1FF_FFFF], last, None, 0);
+        under(&t, &[0x200_0000, GIB_4, 1 << 59, u64::MAX], last, Some(0x1FF_FFFF), 0);
+        let block = dma(5, WRITE, half | 0x100_0000, 4_096, 0);
+        under(&t, &[0, 0x100_0000, 0x100_0001, 0x100_0FFF], block, None, 0);
+        under(&t, &[0x100_1000], block, Some(0x100_0000), 0);
+        // Around 4 GiB.
+        t.set_entry(2, record, [0xFE, 0x101, 1, 0]);
+        t.keeps(dma(5, READ, half | 0xFFFE_F000, 4_096, 0), pass(0xFFFE_F000, 2, 0));
+        for length in [1, 4_096] {
+            let address = half | GIB_4;
+            let request = dma(5, READ, address, length, 0);
+            t.would_freeze(request, refuse(17, 0), (2, 17, address));
+        }
+    }
+    t.keeps(dma(5, READ, 1 << 59 | 0xFFFF_F000, 4_096, 0), pass(0xFFFF_F000, 2, 0));
+    // The last byte of the largest bypass.
+    t.set_entry(2, SECOND, [0, 1 << 35, 1, 0]);
+    let last = dma(5, READ, 0x0FFF_FFFF_FFFF_FFFF, 1, 0);
+    under(&t, &[GIB_4, (1 << 59) - 1], last, None, 0);
+    under(&t, &[1 << 59], last, Some(0x07FF_FFFF_FFFF_FFFF), 0);
+}
+
+#[test]
+fn installed_up_to_the_last_byte() {
+    // The last page below 2^64. Its last byte is refused under every size.
+    let mut t = of_the_cases();
+    t.set_word(0x2018, 0xFFFF_FFFF_FFFF_F003);
+    let page = 0xFFFF_FFFF_FFFF_F000;
+    let sizes = [0, 0xFFF, 0x1000, GIB_4, page, u64::MAX - 1, u64::MAX];
+    for (address, length) in [(0x3000, 4_096), (0x3FFF, 1), (0x3FF8, 8)] {
+        under(&t, &sizes, dma(5, READ, address, length, 0), None, 1);
+    }
+    let others =
+        [(0x3000, 4_095, page), (0x3FFE, 1, u64::MAX - 1), (0x3FF8, 7, 0xFFFF_FFFF_FFFF_FFF8)];
+    for (address, length, passes) in others {
+        let request = dma(5, READ, address, length, 0);
+        under(&t, &[0, page, u64::MAX - 1], request, None, 1);
+        under(&t, &[u64::MAX], request, Some(passes), 1);
+    }
+}
+
+#[test]
+fn installed_is_tested_last() {
+    // Every other refusal is as before where nothing is installed, with its count and its word.
+    let mut t = with_state([0; 4]);
+    t.requesters[6] = 9;
+    t.set_word(0x4020, 0x9001);
+    t.set_word(0x4030, GIB_4 | 1);
+    for installed in [0, 1, GIB_4] {
+        t.installed = installed;
+        for (address, answer) in that_freeze() {
+            let request = dma(5, READ, address, 4, 0);
+            t.would_freeze(request, answer, (2, answer[AT_REASON], address));
+        }
+        // A last word that does not allow writes, of a page below 4 GiB and of one above.
+        for (index, word) in [(4, 0x4020), (6, 0x4030)] {
+            let address = by_index(1, 1, index);
+            let answer = refuse_at(word, 8, 3);
+            t.would_freeze(dma(5, WRITE, address, 4, 0), answer, (2, 8, address));
+        }
+        t.keeps(dma(5, READ, by_index(1, 1, 1) | 0xFFF, 2, 0), refuse(2, 0));
+        t.keeps(dma(6, READ, by_index(1, 1, 1), 4, 0), refuse(3, 0));
+        let mut stopped = t.clone();
+        stopped.state[8] = 2;
+        stopped.keeps(dma(5, READ, by_index(1, 1, 1), 4, 0), refuse(4, 0));
+        // A bypass: outside its range, and a bad one.
+        for (end, reason) in [(1, 7), (0, 6)] {
+            t.set_entry(2, SECOND, [0, end, 1, 0]);
+            let address = 1 << 59 | 0x100_0000;
+            let request = dma(5, READ, address, 4, 0);
+            t.would_freeze(request, refuse(reason, 0), (2, reason, address));
+        }
+        t.set_entry(2, SECOND, [0; 4]);
+    }
+}
+
+#[test]
+fn table_words_above_the_installed_size() {
+    // Tables at 0x2000, 0x3000 and 0x4000; one page is installed, and memory is longer than that.
+    let mut t = of_three_levels();
+    t.set_word(0x4008, 3);
+    for installed in [4, 0x1000, 0x2008] {
+        t.installed = installed;
+        t.keeps(dma(5, READ, by_index(1, 1, 1), 4, 0), pass(0, 2, 3));
+    }
+    // The page of the tables themselves: one byte more is 17.
+    t.set_word(0x4008, 0x4003);
+    let request = dma(5, READ, by_index(1, 1, 1), 8, 0);
+    under(&t, &[0x4000, 0x4007], request, None, 3);
+    under(&t, &[0x4008], request, Some(0x4000), 3);
+}
+
+#[test]
+fn installed_size_of_nothing() {
+    // Every DMA that would pass is 17; MSI, loads, stores, messages and firmware are as before.
+    let mut t = of_the_cases();
+    t.installed = 0;
+    t.set_entry(2, SECOND, [0, 1, 1, 0]);
+    t.set_word(0x2000, 3);
+    t.set_interrupt(7, [2, 0x42, 5, 0]);
+    t.set_m32([GIB_4, 0x1000_0000, 0x8000_0000]);
+    t.set_m64(0, [1 << 40, 1 << 28, 1, 2]);
+    for (address, words) in [(0, 1), (1 << 59, 0)] {
+        for direction in [READ, WRITE] {
+            let request = dma(5, direction, address, 1, 0);
+            t.would_freeze(request, refuse(17, words), (2, 17, address));
+        }
+    }
+    for address in [0x1000_0000_0000_0070, 0xFFFF_0070] {
+        let request = dma(5, WRITE, address, 4, 0);
+        t.clone().check(request, msi(7, 0x42, 5), &[Interrupt(31, 2)]);
+    }
+    t.check(dma(5, WRITE, 0xFFFF_0070, 4, 0), msi(7, 0x42, 5), &[Interrupt(31, 2)]);
+    t.check(end(7), done(), &[Interrupt(31, 0)]);
+    t.check(priority(7, 6), done(), &[Interrupt(30, 6)]);
+    t.keeps(load(GIB_4 + 0x10, 4), pass(0x8000_0010, 0, 0));
+    t.keeps(store((1 << 40) + 8, 8), pass((1 << 40) + 8, 2, 0));
+    t.freezes(error(5), done(), &[(2, 12, 5)]);
+    t.check(clear(2, DMA_BIT), done(), &[State(8, 1)]);
+}
+
+#[test]
+fn installed_size_is_no_reason_1() {
+    for installed in [0, 1, 7, 0xFFF, GIB_4 - 1, 1 << 63, u64::MAX] {
+        // The first DMA of every kind of request goes to 0xABCDEFFC, and stops the PE where that is
+        // not installed.
+        let mut t = Tables { installed, ..largest() };
+        let mut answers = [0; ANSWER_WORDS];
+        assert_eq!(t.serve(&of_every_kind()[0], &mut answers), 1);
+        let passes = installed > 0xABCD_EFFF;
+        assert_eq!(answers, if passes { pass(0xABCD_EFFC, 255, 1) } else { refuse(17, 1) });
+        // A length that is wrong is 1 under every size.
+        let mut short = Tables { installed, ..largest() };
+        short.state.truncate(1_023);
+        refuses_all("state one short", short);
+    }
+}
+
+#[test]
+fn installed_in_a_list() {
+    // PE 2 is stopped alone, its record is of the first refusal after each clear of it, and the DMA
+    // bit alone lets the next DMA be asked. PE 3, its peer, goes on.
+    let mut t = with_state([0; 4]);
+    t.requesters[6] = 3;
+    t.set_entry(3, FIRST, [0xFF, 0x101, 1, 0]);
+    let above = dma(5, READ, by_index(1, 1, 5) | 0xABC, 4, 0);
+    let below = dma(5, WRITE, by_index(1, 1, 1) | 0xABC, 4, 0);
+    let served = [
+        (below, pass(0x9ABC, 2, 3)),
+        (above, refuse(17, 3)),
+        (below, refuse(4, 0)),
+        (above, refuse(4, 0)),
+        (dma(6, READ, 0xFFFE_FFFF, 1, 0), pass(0xFFFE_FFFF, 3, 0)),
+        (clear(2, DMA_BIT), done()),
+        (below, pass(0x9ABC, 2, 3)),
+        (dma(5, READ, by_index(2, 1, 1), 4, 0), refuse_at(0x2010, 8, 1)),
+        (clear(2, DMA_BIT), done()),
+        (clear(2, RECORD), done()),
+        (above, refuse(17, 3)),
+        (clear(2, MMIO_BIT), done()),
+        (dma(6, WRITE, GIB_4, 1, 0), refuse(17, 0)),
+        (dma(6, READ, 0xFFFE_FFFF, 1, 0), refuse(4, 0)),
+    ];
+    let (requests, answers): (Vec<RequestWords>, Vec<AnswerWords>) = served.into_iter().unzip();
+    let mut changes = frozen(2, 17, by_index(1, 1, 5) | 0xABC, 0).to_vec();
+    changes[0] = State(8, 2);
+    changes.extend(frozen(3, 17, GIB_4, 0));
+    t.check_list(&requests, &answers, &changes);
 }
 
 // ---- The geometries that Linux programs ----
@@ -1377,6 +1642,7 @@ fn words_outside_the_slices() {
         4,
         8,
         8,
+        t.installed,
         &t.requesters,
         &t.entries,
         &t.memory,

@@ -20,9 +20,10 @@ mod replay;
 use celltimber::*;
 use plain_words::{answer_words, request_words, run_proved};
 use random::Random;
-use replay::bridge::{self, Bridge, Part, Request};
-use replay::Line;
+use replay::bridge::{self, Bridge, Name, Part, Request};
+use replay::{Line, INSTALLED};
 use std::fmt::LowerHex;
+use std::mem;
 use std::process::{exit, Command, Stdio};
 
 /// Stands in answer words before a call.
@@ -49,17 +50,31 @@ impl Asked {
 }
 
 /// How often each answer and each reason came, how often a peer was served after a refusal had
-/// frozen a PE that lists it, how often a walk stopped at a word of each kind, and how often a
-/// freeze wrote over a word left over in an empty record.
+/// frozen a PE that lists it, how often a walk stopped at a word of each kind, how often a freeze
+/// wrote over a word left over in an empty record, and how DMAs stood to the installed size.
 #[derive(Default)]
 struct Counts {
     requests: u64,
     names: [u64; 7],
-    reasons: [u64; 16],
+    reasons: [u64; 18],
     peers: u64,
     stopped_at: [u64; 4],
     left_over: u64,
+    /// Reason 17 by the table words read: none in a bypass, 1, 2, 3 or more.
+    above_after: [u64; 4],
+    /// Reason 17 in pages of each size.
+    above_in: [u64; 4],
+    /// A pass whose last byte is the last one installed, and a refusal with the byte after it.
+    last_installed: u64,
+    first_above: u64,
+    /// A refusal with byte 2^64 - 1.
+    last_of_all: u64,
+    /// Reason 8 for a direction, where the other one would be 17.
+    forbidden_above: u64,
 }
+
+/// The page codes, in the order of `above_in`.
+const PAGE_CODES: [u64; 4] = [1, 5, 13, 17];
 
 // The kinds of words that a walk stops at, by their places in `stopped_at`.
 const UPPER_INVALID: usize = 0;
@@ -74,11 +89,68 @@ impl Counts {
         self.reasons[answer[1] as usize] += 1;
     }
 
+    /// How a DMA that was answered stands to the installed size.
+    fn add_range(&mut self, tables: &mut Bridge, request: Request, answer: &AnswerWords) {
+        let Request::Dma { requester, write, address, length, data } = request else { return };
+        let installed = tables.installed;
+        match (answer[AT_NAME], answer[AT_REASON]) {
+            (PASS, _) => {
+                self.last_installed += u64::from(answer[AT_VALUE] + length == installed);
+            }
+            (_, REASON_ABOVE_INSTALLED) => {
+                let pe = u64::from(tables.requesters[requester as usize]);
+                let page_code = word(&tables.translation, 8, pe, 4 * (address >> 59) + 3);
+                self.above_after[answer[AT_WORDS].min(3) as usize] += 1;
+                if let Some(place) = PAGE_CODES.iter().position(|&code| code == page_code) {
+                    self.above_in[place] += 1;
+                }
+                let last = last_byte(tables, request);
+                self.first_above += u64::from(last == Some(installed));
+                self.last_of_all += u64::from(last == Some(u64::MAX));
+            }
+            (_, REASON_TABLE_WORD) => {
+                let other = Request::Dma { requester, write: !write, address, length, data };
+                let above = last_byte(tables, other).is_some_and(|last| last >= installed);
+                self.forbidden_above += u64::from(above);
+            }
+            _ => {}
+        }
+    }
+
     /// The least of these counts; 12 and 13 are in records only.
     fn least(&self) -> u64 {
-        let refused = (1..=11).chain(14..=15).map(|reason| self.reasons[reason]);
-        let others = self.stopped_at.into_iter().chain([self.peers, self.left_over]);
-        self.names.iter().copied().chain(refused).chain(others).min().unwrap_or(0)
+        let refused = (1..=11).chain([14, 15, 17]).map(|reason| self.reasons[reason]);
+        let by_kind = self.stopped_at.into_iter().chain(self.above_after).chain(self.above_in);
+        let others = [
+            self.peers,
+            self.left_over,
+            self.last_installed,
+            self.first_above,
+            self.last_of_all,
+            self.forbidden_above,
+        ];
+        self.names.into_iter().chain(refused).chain(by_kind).chain(others).min().unwrap_or(0)
+    }
+}
+
+/// The last byte that a DMA reaches in the system where its record and its table words allow it,
+/// whatever is installed and whoever is stopped. The tables stay as they are.
+fn last_byte(tables: &mut Bridge, request: Request) -> Option<u64> {
+    let Request::Dma { address, length, .. } = request else { return None };
+    // An MSI would change an interrupt.
+    if address >> 60 != 0 || (0xFFFF_0000..=0xFFFF_FFFF).contains(&address) {
+        return None;
+    }
+    let nobody_stopped = vec![0; tables.state.len()];
+    let state = mem::replace(&mut tables.state, nobody_stopped);
+    let installed = mem::replace(&mut tables.installed, u64::MAX);
+    let answer = tables.handle(request);
+    tables.state = state;
+    tables.installed = installed;
+    match (answer.name, answer.reason) {
+        (Name::Pass, _) => Some(answer.value + (length - 1)),
+        (_, REASON_ABOVE_INSTALLED) => Some(u64::MAX),
+        _ => None,
     }
 }
 
@@ -124,7 +196,14 @@ impl Pair {
         if !matches!(asked.request, Request::Clear { .. }) {
             counts.left_over += before - left_over(&self.plain);
         }
+        counts.add_range(&mut self.plain, asked.request, &wanted);
         Ok(wanted)
+    }
+
+    /// Another installed size.
+    fn install(&mut self, installed: u64) {
+        self.plain.installed = installed;
+        self.proved.installed = installed;
     }
 
     /// 1 where this answer is the first pass of a spared peer.
@@ -133,7 +212,7 @@ impl Pair {
         let runs = |pe: u64| word(&t.state, 4, pe, 0) & 3 == 0;
         spared.retain(|&pe| runs(pe));
         match (request, answer[0], answer[1]) {
-            (Request::Dma { requester, .. }, REFUSE, 5..=9 | 15) => {
+            (Request::Dma { requester, .. }, REFUSE, 5..=9 | 15 | 17) => {
                 let failing = u64::from(t.requesters[requester as usize]);
                 let listed = |pe| word(&t.peers, 4, failing, pe / 64) >> (pe % 64) & 1 == 1;
                 spared.extend((0..t.n).filter(|&pe| listed(pe) && runs(pe)));
@@ -292,13 +371,42 @@ impl Generator {
             _ => random.between(1_024, 16_384),
         };
         let frequent = [random.below(m), random.below(m), m.saturating_sub(1)];
-        let plain = Bridge::new(n, m, r, words);
+        let plain = Bridge::new(n, m, r, 0, words);
         let pair = Pair { proved: plain.clone(), plain, spared: Vec::new() };
         let requester_of = vec![0; n as usize];
         let mut generator = Generator { random, pair, requester_of, frequent };
         generator.fill();
+        generator.pair.plain.installed = generator.installed();
         generator.pair.proved = generator.pair.plain.clone();
         generator
+    }
+
+    /// The installed size of a bridge: one that table words or a DMA of it lead to, or any.
+    fn installed(&mut self) -> u64 {
+        let (asked, last) = self.dma_in_reach();
+        let memory_bytes = 8 * self.pair.plain.memory.len() as u64;
+        match self.random.below(8) {
+            0 => self.random.pick(&[0, 1, 4_095, 4_096, INSTALLED, asked.words[3]]),
+            1 => self.random.any(),
+            2 => self.random.below(memory_bytes),
+            3 => memory_bytes,
+            4 => last.map_or(INSTALLED, |last| self.random.pick(&[last, last.saturating_add(1)])),
+            _ => u64::MAX - self.random.below(2),
+        }
+    }
+
+    /// A DMA, mostly one with a last byte in the system.
+    fn dma_in_reach(&mut self) -> (Asked, Option<u64>) {
+        let mut tries = 20;
+        loop {
+            let requester = self.requester();
+            let asked = self.dma(requester, self.pe_of(requester));
+            let last = last_byte(&mut self.pair.plain, asked.request);
+            tries -= 1;
+            if last.is_some() || tries == 0 {
+                return (asked, last);
+            }
+        }
     }
 
     // ---- Words of the tables ----
@@ -339,7 +447,7 @@ impl Generator {
             words[0] = random.next() & !3;
             if random.percent(20) {
                 words.fill_with(|| random.any());
-                words[1] = random.pick(&[0, words[1], words[1] % 16]);
+                words[1] = random.pick(&[0, words[1], words[1] % 18]);
             }
         }
     }
@@ -362,11 +470,11 @@ impl Generator {
             16 => t.m = random.pick(&[t.m + 1, MOST_INTERRUPTS + 1, (1 << 62) + t.m]),
             17 => t.r = random.pick(&[0, t.r - 1, t.r + 1, 65_537, (1 << 32) + t.r]),
             // One past a limit, with lengths that agree.
-            18 => *t = Bridge::new(257, t.m, t.r, 1_024),
-            19 => *t = Bridge::new(t.n, MOST_INTERRUPTS + 1, t.r, 1_024),
-            20 => *t = Bridge::new(t.n, t.m, 65_537, 1_024),
-            21 => *t = Bridge::new(0, t.m, t.r, 1_024),
-            _ => *t = Bridge::new(t.n, t.m, 0, 1_024),
+            18 => *t = Bridge::new(257, t.m, t.r, t.installed, 1_024),
+            19 => *t = Bridge::new(t.n, MOST_INTERRUPTS + 1, t.r, t.installed, 1_024),
+            20 => *t = Bridge::new(t.n, t.m, 65_537, t.installed, 1_024),
+            21 => *t = Bridge::new(0, t.m, t.r, t.installed, 1_024),
+            _ => *t = Bridge::new(t.n, t.m, 0, t.installed, 1_024),
         }
         self.pair.proved = self.pair.plain.clone();
     }
@@ -478,7 +586,10 @@ impl Generator {
                 let bits = record[1].wrapping_mul(index_bits).wrapping_add(code).wrapping_add(11);
                 let size = 1 << (bits & 63);
                 let past = if random.percent(4) { size } else { 0 };
-                past | random.next() & (size - 1)
+                // Often the last byte of its page.
+                let end =
+                    if random.percent(15) { (1 << (code.wrapping_add(11) & 63)) - 1 } else { 0 };
+                past | end | random.next() & (size - 1)
             }
         };
         let mut address = offset & ((1 << 59) - 1) | second << 59;
@@ -600,6 +711,7 @@ fn entry(random: &mut Random, memory_words: u64) -> [u64; 4] {
 fn table_word(random: &mut Random, memory_words: u64) -> u64 {
     match random.below(12) {
         0 => 0,
+        1 if random.percent(50) => u64::MAX,
         1 => random.next(),
         2 => random.next() & !3,
         _ => {
@@ -676,7 +788,34 @@ fn compare_bridge(seed: u64, number: u64, counts: &mut Counts) -> Result<(), Str
     }
     again
         .ask_all(&all, &answers, &generator.pair)
-        .map_err(|difference| format!("bridge {}, one list:\n{}", number, difference))
+        .map_err(|difference| format!("bridge {}, one list:\n{}", number, difference))?;
+    compare_sizes(&mut generator, limit / 20, counts)
+        .map_err(|difference| format!("bridge {}, {}", number, difference))
+}
+
+/// Some DMAs, each under installed sizes next to its last byte and far from it. Its PE is released
+/// before each.
+fn compare_sizes(
+    generator: &mut Generator,
+    dmas: usize,
+    counts: &mut Counts,
+) -> Result<(), String> {
+    for _ in 0..dmas {
+        let (asked, last) = generator.dma_in_reach();
+        let pe = generator.pe_of(asked.words[1]);
+        let release = Asked::of(Request::Clear { pe, part: Part::Dma });
+        let last = last.unwrap_or(generator.random.any());
+        let near = [last.saturating_sub(1), last, last.saturating_add(1), last.saturating_add(2)];
+        let others = [0, 1, asked.words[3], INSTALLED, generator.random.any(), u64::MAX];
+        for installed in near.into_iter().chain(others) {
+            generator.pair.install(installed);
+            for asked in [release, asked] {
+                let told = |difference| format!("installed {:x}:\n{}", installed, difference);
+                generator.pair.ask(&asked, counts).map_err(told)?;
+            }
+        }
+    }
+    Ok(())
 }
 
 // ---- The program ----
@@ -710,7 +849,9 @@ fn compare(generate: &str, seeds: u64, lines: u64) -> Result<(), String> {
             "{}: {} inputs, {} requests, no difference; {} times or more: every answer and reason, a \
              peer served after a refusal ({}), a walk that stops at an upper word that is not valid \
              ({}) or leads to a misaligned table ({}), at a last word ({}), at a missing word ({}), a \
-             word left over in an empty record ({})",
+             word left over in an empty record ({}); 17 in a bypass and after 1, 2 and more words \
+             ({:?}), in pages of 4 KiB to 256 MiB ({:?}), at the first byte not installed ({}) and at \
+             byte 2^64 - 1 ({}); a pass to the last installed byte ({}), and 8 before 17 ({})",
             name,
             seeds,
             counts.requests,
@@ -720,7 +861,13 @@ fn compare(generate: &str, seeds: u64, lines: u64) -> Result<(), String> {
             counts.stopped_at[UPPER_MISALIGNED],
             counts.stopped_at[LAST],
             counts.stopped_at[MISSING],
-            counts.left_over
+            counts.left_over,
+            counts.above_after,
+            counts.above_in,
+            counts.first_above,
+            counts.last_of_all,
+            counts.last_installed,
+            counts.forbidden_above
         );
         if least < 100 {
             return Err(format!("{}: one of these came {} times, not 100", name, least));

@@ -28,6 +28,8 @@ const MAX: u64 = u64::MAX;
 const PAGE_CODES: [u64; 4] = [1, 5, 13, 17];
 /// Bit 59 picks the second record of a PE.
 const SECOND: u64 = 1 << 59;
+/// The installed size of the replay program: 4 GiB, a multiple of every page size.
+const INSTALLED: u64 = 1 << 32;
 
 /// An address of the DMA class that was good when its tables were built.
 #[derive(Clone, Copy)]
@@ -449,15 +451,19 @@ impl Generator {
         }
     }
 
-    /// The last word of a walk: mostly valid both ways, any bits below the page.
+    /// The last word of a walk: mostly valid both ways and of a page that is installed, any bits
+    /// below the page.
     fn last_word(&mut self) -> u64 {
         let valid = self.random.pick(&[1, 2, 3, 3, 3, 3, 3, 3, 3, 3]);
-        match self.random.below(4) {
-            0 => self.random.next() & 0x7FFF_F000 | valid,
-            1 => self.random.next() & !0xFFF | valid,
-            2 => MAX - 3 + valid,
-            _ => self.random.next() & !3 | valid,
-        }
+        let page = match self.random.below(16) {
+            0 => INSTALLED - 1,
+            1 => INSTALLED,
+            2 => self.random.next(),
+            3 => MAX,
+            4 | 5 => self.random.next() & 0xFFFF_F000,
+            _ => self.random.next() & (INSTALLED - 1),
+        };
+        page & !3 | valid
     }
 
     /// An upper word that leads to a table in memory.
@@ -470,15 +476,18 @@ impl Generator {
 
     fn build_bypass(&mut self, pe: u64, record: u64) {
         let top = 1 << 35;
-        let (start, end) = match self.random.below(8) {
+        let (start, end) = match self.random.below(12) {
             0 => (0, 1),
             1 => (1, 2),
             2 => (0, top),
             3 => (top - 1, top),
-            // Around the 32-bit MSI window.
-            4 => (255, 256),
-            5 => (0, 256),
-            6 => {
+            // Around the 32-bit MSI window, which ends at the installed size.
+            4 | 5 => (255, 256),
+            6 => (0, 256),
+            7 => (255, 257),
+            8 => (256, 257),
+            9 => self.random.pick(&[(2, 5), (0x80, 0x90)]),
+            10 => {
                 let start = self.random.below(top);
                 (start, start + 1)
             }
@@ -612,7 +621,7 @@ impl Generator {
         let reason = match self.random.below(8) {
             0..=3 => 0,
             4 => self.random.pick(&[99, MAX]),
-            _ => self.random.between(1, 15),
+            _ => self.random.between(1, 17),
         };
         let value = self.random.any();
         let word = self.random.pick(&[0, 8, 0x2FF8, MAX - 7, MAX]);
@@ -748,32 +757,33 @@ impl Generator {
     // ---- Requests ----
 
     fn step(&mut self) {
-        let weights = [300, 60, 40, 40, 40, 30, 170, 190, 20, 70, 80, 40, 50, 50, 4, 1];
+        let weights = [300, 60, 40, 40, 40, 40, 30, 170, 190, 20, 70, 80, 40, 50, 50, 4, 1];
         match self.random.weighted(&weights) {
             0 => self.ask_dma(),
             1 => self.ask_dma_edge(),
             2 => self.ask_bad_word(),
-            3 => self.ask_class(),
-            4 => self.ask_length(),
-            5 => self.ask_requester(),
-            6 => self.ask_msi(),
-            7 => self.ask_window(),
-            8 => self.ask_error(),
-            9 => {
+            3 => self.ask_border(),
+            4 => self.ask_class(),
+            5 => self.ask_length(),
+            6 => self.ask_requester(),
+            7 => self.ask_msi(),
+            8 => self.ask_window(),
+            9 => self.ask_error(),
+            10 => {
                 let line = self.end_line();
                 self.put_text(line)
             }
-            10 => {
+            11 => {
                 let line = self.priority_line();
                 self.put_text(line)
             }
-            11 => {
+            12 => {
                 let line = self.any_clear();
                 self.put_text(line)
             }
-            12 => self.change(),
-            13 => self.damaged(),
-            14 => {
+            13 => self.change(),
+            14 => self.damaged(),
+            15 => {
                 let line = self.size_off_limits();
                 self.put_text(line)
             }
@@ -910,17 +920,31 @@ impl Generator {
         self.expect_freeze(known.pe);
     }
 
-    /// A walk that stops at a chosen level: a word there, or before it, is made bad and then set
-    /// back.
-    fn ask_bad_word(&mut self) {
-        let known = match self.known_address() {
-            Some(known) if known.page_bits < known.window_bits => known,
-            _ => return,
-        };
+    /// A known address of a record of pages.
+    fn known_page(&mut self) -> Option<Known> {
+        self.known_address().filter(|known| known.page_bits < known.window_bits)
+    }
+
+    /// The place in memory of the word that the walk of a known page reads with so many levels
+    /// below it.
+    fn walked(&self, known: Known, below: u64) -> u64 {
         let index = |level| {
             known.address >> (known.page_bits + level * known.index_bits)
                 & ((1 << known.index_bits) - 1)
         };
+        let levels = (known.window_bits - known.page_bits) / known.index_bits;
+        let base = self.word(TRANSLATION, 8 * known.pe + 4 * (known.address / SECOND));
+        let mut at = base / 8 + index(levels - 1);
+        for level in (below..levels - 1).rev() {
+            at = (self.word(MEMORY, at) >> 12 << 9) + index(level);
+        }
+        at
+    }
+
+    /// A walk that stops at a chosen level: a word there, or before it, is made bad and then set
+    /// back.
+    fn ask_bad_word(&mut self) {
+        let Some(known) = self.known_page() else { return };
         let levels = (known.window_bits - known.page_bits) / known.index_bits;
         let table_bytes = 8 << known.index_bits;
         let outside = (8 * self.words).next_multiple_of(table_bytes);
@@ -929,10 +953,7 @@ impl Generator {
             return self.ask_with(known, TRANSLATION, base, outside);
         }
         let stop = self.random.below(levels);
-        let mut at = self.word(TRANSLATION, base) / 8 + index(levels - 1);
-        for level in (stop..levels - 1).rev() {
-            at = (self.word(MEMORY, at) >> 12 << 9) + index(level);
-        }
+        let at = self.walked(known, stop);
         let old = self.word(MEMORY, at);
         let word = match self.random.below(3) {
             0 => old & !3,
@@ -943,6 +964,24 @@ impl Generator {
         };
         if at < self.words {
             self.ask_with(known, MEMORY, at, word)
+        }
+    }
+
+    /// A DMA next to the installed size: at the end of the last page that is installed, or at the
+    /// start of the one after it.
+    fn ask_border(&mut self) {
+        let Some(known) = self.known_page() else { return };
+        let at = self.walked(known, 0);
+        let last = (1 << known.page_bits) - 1;
+        let (page, in_page) = if self.random.percent(50) {
+            (INSTALLED - 1, last - self.random.pick(&[0, 1, 7, 4_094, 4_095]))
+        } else {
+            (INSTALLED, self.random.pick(&[0, 0, 0, 1, last]))
+        };
+        let word = page & !3 | self.random.pick(&[1, 2, 3, 3, 3, 3]);
+        if at < self.words {
+            let address = known.address | in_page;
+            self.ask_with(Known { address, ..known }, MEMORY, at, word)
         }
     }
 

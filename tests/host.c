@@ -11,6 +11,9 @@
 
 enum { PES = 4, INTERRUPTS = 8, REQUESTERS = 8, MEMORY = 0x1000, GUARD = 8 };
 
+/* The installed size ends after the 4 bytes that the first request reads. */
+enum { INSTALLED = 0x12345AC0 };
+
 #define LENGTH(array) (sizeof(array) / sizeof((array)[0]))
 
 static const uint64_t requests[][CELLTIMBER_REQUEST_WORDS] = {
@@ -64,6 +67,10 @@ static const uint64_t requests[][CELLTIMBER_REQUEST_WORDS] = {
     {CELLTIMBER_CLEAR, 3, CELLTIMBER_DMA_BIT, 0, 0, 0, 0, 0},
     {CELLTIMBER_CLEAR, 3, CELLTIMBER_RECORD, 0, 0, 0, 0, 0},
     {CELLTIMBER_DMA, 3, CELLTIMBER_READ, 0, 1, 0, 0, 0},
+    /* the first byte that is not installed */
+    {CELLTIMBER_CLEAR, 2, CELLTIMBER_DMA_BIT, 0, 0, 0, 0, 0},
+    {CELLTIMBER_CLEAR, 2, CELLTIMBER_RECORD, 0, 0, 0, 0, 0},
+    {CELLTIMBER_DMA, 5, CELLTIMBER_READ, 0x3ABC, 5, 0, 0, 0},
     /* an error message freezes PE 1; its peer, PE 2, has a record already */
     {CELLTIMBER_ERROR, 6, 0, 0, 0, 0, 0, 0},
     {CELLTIMBER_CLEAR, 1, CELLTIMBER_MMIO_BIT, 0, 0, 0, 0, 0},
@@ -186,7 +193,7 @@ static size_t run(size_t first, size_t request_words, size_t answer_words)
 {
     before = lent;
     return check(first,
-        celltimber_run(PES, INTERRUPTS, REQUESTERS, lent.requesters, LENGTH(lent.requesters) - cut[CELLTIMBER_TABLE_REQUESTERS], lent.entries,
+        celltimber_run(PES, INTERRUPTS, REQUESTERS, INSTALLED, lent.requesters, LENGTH(lent.requesters) - cut[CELLTIMBER_TABLE_REQUESTERS], lent.entries,
             LENGTH(lent.entries) - cut[CELLTIMBER_TABLE_ENTRIES], lent.memory, LENGTH(lent.memory) - cut[CELLTIMBER_TABLE_MEMORY], lent.peers,
             LENGTH(lent.peers) - cut[CELLTIMBER_TABLE_PEERS], lent.interrupts, LENGTH(lent.interrupts) - cut[CELLTIMBER_TABLE_INTERRUPTS], lent.windows,
             LENGTH(lent.windows) - cut[CELLTIMBER_TABLE_WINDOWS], lent.segments, LENGTH(lent.segments) - cut[CELLTIMBER_TABLE_SEGMENTS], lent.state,
@@ -198,7 +205,7 @@ static size_t run(size_t first, size_t request_words, size_t answer_words)
 static void kinds(void)
 {
     static struct lent after;
-    const uint64_t *record = &lent.state[3 * CELLTIMBER_STATE_WORDS + 1];
+    const uint64_t *record = &lent.state[3 * CELLTIMBER_STATE_WORDS + 1], *above = &lent.state[2 * CELLTIMBER_STATE_WORDS + 1];
     size_t k;
     start();
     for (k = 0; k < COUNT; k++) {
@@ -218,6 +225,8 @@ static void kinds(void)
         fail("the stop bits of PE 0, which is frozen, and of PE 1, whose MMIO bit is cleared");
     if (record[0] != CELLTIMBER_REASON_OUTSIDE_MEMORY || record[1] != 0 || record[2] != 0x8000)
         fail("the error record of PE 3, whose table is past memory");
+    if (above[0] != CELLTIMBER_REASON_ABOVE_INSTALLED || above[1] != 0x3ABC || above[2] != 0)
+        fail("the error record of PE 2, which asked for a byte that is not installed");
     after = lent;
     start();
     if (run(0, LENGTH(lent.requests), LENGTH(lent.answers)) != COUNT || memcmp(&after, &lent, sizeof lent) != 0)
@@ -246,22 +255,26 @@ static void lengths(void)
 /* Null pointers with length 0, and slices that are only read and overlap. */
 static void pointers(void)
 {
+    static const uint64_t sizes[] = {INSTALLED, UINT64_MAX, 0};
     uint64_t *m = lent.memory;
+    size_t k;
     start();
     before = lent;
     printf("served %zu\n",
-        check(0, celltimber_run(PES, 0, 1, NULL, 0, NULL, 0, NULL, 0, NULL, 0, NULL, 0, NULL, 0, NULL, 0, NULL, 0, NULL, 0, NULL, 0)));
+        check(0, celltimber_run(PES, 0, 1, INSTALLED, NULL, 0, NULL, 0, NULL, 0, NULL, 0, NULL, 0, NULL, 0, NULL, 0, NULL, 0, NULL, 0, NULL, 0)));
     check(0,
-        celltimber_run(PES, 0, 1, NULL, 0, NULL, 0, NULL, 0, NULL, 0, NULL, 0, NULL, 0, NULL, 0, NULL, 0, lent.requests, CELLTIMBER_REQUEST_WORDS,
-            lent.answers, CELLTIMBER_ANSWER_WORDS));
+        celltimber_run(PES, 0, 1, INSTALLED, NULL, 0, NULL, 0, NULL, 0, NULL, 0, NULL, 0, NULL, 0, NULL, 0, NULL, 0, lent.requests,
+            CELLTIMBER_REQUEST_WORDS, lent.answers, CELLTIMBER_ANSWER_WORDS));
     print("no tables", lent.answers, CELLTIMBER_ANSWER_WORDS);
-    /* no memory and no interrupts is a good length of both: a bypass passes */
-    check(3,
-        celltimber_run(PES, 0, REQUESTERS, lent.requesters, LENGTH(lent.requesters), lent.entries, LENGTH(lent.entries), NULL, 0, lent.peers,
-            LENGTH(lent.peers), NULL, 0, lent.windows, LENGTH(lent.windows), lent.segments, LENGTH(lent.segments), lent.state, LENGTH(lent.state),
-            &lent.requests[3 * CELLTIMBER_REQUEST_WORDS], CELLTIMBER_REQUEST_WORDS, &lent.answers[3 * CELLTIMBER_ANSWER_WORDS],
-            CELLTIMBER_ANSWER_WORDS));
-    print("no memory", &lent.answers[3 * CELLTIMBER_ANSWER_WORDS], CELLTIMBER_ANSWER_WORDS);
+    /* no memory and no interrupts is a good length of both: a bypass passes, under the largest installed size too, and under 0 it does not */
+    for (k = 0; k < LENGTH(sizes); k++) {
+        check(3,
+            celltimber_run(PES, 0, REQUESTERS, sizes[k], lent.requesters, LENGTH(lent.requesters), lent.entries, LENGTH(lent.entries), NULL, 0, lent.peers,
+                LENGTH(lent.peers), NULL, 0, lent.windows, LENGTH(lent.windows), lent.segments, LENGTH(lent.segments), lent.state, LENGTH(lent.state),
+                &lent.requests[3 * CELLTIMBER_REQUEST_WORDS], CELLTIMBER_REQUEST_WORDS, &lent.answers[3 * CELLTIMBER_ANSWER_WORDS],
+                CELLTIMBER_ANSWER_WORDS));
+        print("no memory", &lent.answers[3 * CELLTIMBER_ANSWER_WORDS], CELLTIMBER_ANSWER_WORDS);
+    }
     /* entries, peers, windows and the request are parts of memory */
     start();
     memcpy(&m[0x800], lent.entries, sizeof lent.entries);
@@ -270,8 +283,8 @@ static void pointers(void)
     memcpy(&m[0xD00], lent.requests, CELLTIMBER_REQUEST_WORDS * sizeof m[0]);
     before = lent;
     check(0,
-        celltimber_run(PES, INTERRUPTS, REQUESTERS, lent.requesters, LENGTH(lent.requesters), &m[0x800], LENGTH(lent.entries), m, LENGTH(lent.memory),
-            &m[0x900], LENGTH(lent.peers), lent.interrupts, LENGTH(lent.interrupts), &m[0xC00], LENGTH(lent.windows), lent.segments,
+        celltimber_run(PES, INTERRUPTS, REQUESTERS, INSTALLED, lent.requesters, LENGTH(lent.requesters), &m[0x800], LENGTH(lent.entries), m,
+            LENGTH(lent.memory), &m[0x900], LENGTH(lent.peers), lent.interrupts, LENGTH(lent.interrupts), &m[0xC00], LENGTH(lent.windows), lent.segments,
             LENGTH(lent.segments), lent.state, LENGTH(lent.state), &m[0xD00], CELLTIMBER_REQUEST_WORDS, lent.answers, CELLTIMBER_ANSWER_WORDS));
     print("overlapping", lent.answers, CELLTIMBER_ANSWER_WORDS);
 }

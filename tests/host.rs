@@ -12,6 +12,9 @@ const INTERRUPTS: usize = 8;
 const REQUESTERS: usize = 8;
 const MEMORY: usize = 0x1000;
 
+/// The installed size ends after the 4 bytes that the first request reads.
+const INSTALLED: u64 = 0x1234_5AC0;
+
 fn requests() -> Vec<RequestWords> {
     vec![
         // DMA: one level, both directions; two levels; bypass
@@ -65,6 +68,10 @@ fn requests() -> Vec<RequestWords> {
         clear(3, DMA_BIT),
         clear(3, RECORD),
         dma(3, READ, 0, 1, 0),
+        // the first byte that is not installed
+        clear(2, DMA_BIT),
+        clear(2, RECORD),
+        dma(5, READ, 0x3ABC, 5, 0),
         // an error message freezes PE 1; its peer, PE 2, has a record already
         error(6),
         clear(1, MMIO_BIT),
@@ -141,6 +148,7 @@ impl Tables {
             PES as u64,
             INTERRUPTS as u64,
             REQUESTERS as u64,
+            INSTALLED,
             shorter(&self.requesters, cut(TABLE_REQUESTERS)),
             shorter(&self.entries, cut(TABLE_ENTRIES)),
             shorter(&self.memory, cut(TABLE_MEMORY)),
@@ -176,6 +184,9 @@ fn kinds() {
     assert_eq!([t.state[0], t.state[STATE_WORDS]], [MMIO_STOP | DMA_STOP, DMA_STOP]);
     // The last words are PE 3's error record: its table is past memory.
     assert_eq!(t.state[3 * STATE_WORDS + 1..], [REASON_OUTSIDE_MEMORY, 0, 0x8000]);
+    // PE 2 asked for a byte that is not installed.
+    let above = &t.state[2 * STATE_WORDS + 1..3 * STATE_WORDS];
+    assert_eq!(above, [REASON_ABOVE_INSTALLED, 0x3ABC, 0]);
 }
 
 fn lengths() {
@@ -199,28 +210,33 @@ fn pointers() {
     let words = requests();
     let mut answer = [0; ANSWER_WORDS];
     let none = |requests: &[u64], answers: &mut [u64]| {
-        run(PES as u64, 0, 1, &[], &[], &[], &[], &mut [], &[], &[], &mut [], requests, answers)
+        let (pes, state) = (PES as u64, &mut []);
+        run(pes, 0, 1, INSTALLED, &[], &[], &[], &[], &mut [], &[], &[], state, requests, answers)
     };
     println!("served {}", none(&[], &mut []));
     none(&words[0], &mut answer);
     print("no tables", &answer);
     let mut t = Tables::start();
-    run(
-        PES as u64,
-        0,
-        REQUESTERS as u64,
-        &t.requesters,
-        &t.entries,
-        &[],
-        &t.peers,
-        &mut [],
-        &t.windows,
-        &t.segments,
-        &mut t.state,
-        &words[3],
-        &mut answer,
-    );
-    print("no memory", &answer);
+    for installed in [INSTALLED, u64::MAX, 0] {
+        run(
+            PES as u64,
+            0,
+            REQUESTERS as u64,
+            installed,
+            &t.requesters,
+            &t.entries,
+            &[],
+            &t.peers,
+            &mut [],
+            &t.windows,
+            &t.segments,
+            &mut t.state,
+            &words[3],
+            &mut answer,
+        );
+        print("no memory", &answer);
+    }
+    let mut t = Tables::start();
     t.run(&words[0], &mut answer);
     print("overlapping", &answer);
 }

@@ -29,7 +29,7 @@ const SEGMENTED: u64 = 1 << 41;
 /// N=4. Requester 5 is PE 2 and requester 6 PE 0, the others are none; interrupt 7 is PE 2's, the
 /// others are PE 0's. Segment 3 of M32 is PE 1's; M64 0 is PE 3's, M64 1 has segments of 1 MiB.
 fn of_four_pes() -> Bridge {
-    let mut t = Bridge::new(4, 8, 8, 0);
+    let mut t = Bridge::new(4, 8, 8, 0, 0);
     t.requesters = vec![9, 9, 9, 9, 9, 2, 0, 4];
     t.interrupts[28] = 2;
     let windows = [M32, 1 << 28, 1 << 31, WHOLE, 1 << 28, 1, 3, SEGMENTED, 1 << 28, 2, 9];
@@ -150,7 +150,7 @@ fn filled(tables: &OwnerTables) -> Bridge {
         let length = table.len().min(words.len());
         table[..length].copy_from_slice(&words[..length]);
     }
-    let mut full = Bridge::new(tables.n, tables.m, tables.r, 0);
+    let mut full = Bridge::new(tables.n, tables.m, tables.r, 0, 0);
     full.requesters.fill(0xFFFF);
     full.segments.fill(0xFFFF);
     let pe_words = full.interrupts.iter_mut().step_by(4);
@@ -188,7 +188,7 @@ fn owner_by_answers(plain: &mut Bridge, request: &RequestWords) -> Option<u64> {
 /// Tables of full length: words of PEs are up to N + 1, and windows overlap.
 fn seeded(random: &mut Random) -> Bridge {
     let n = random.pick(&[1, 4, 63, 64, 65, 200, 256]);
-    let mut t = Bridge::new(n, random.below(12), random.between(1, 30), 0);
+    let mut t = Bridge::new(n, random.below(12), random.between(1, 30), 0, 0);
     for pe in t.requesters.iter_mut().chain(&mut t.segments) {
         *pe = random.below(n + 2) as u16;
     }

@@ -42,6 +42,7 @@ pub fn run_proved(tables: &mut Bridge, requests: &[u64], answers: &mut [u64]) ->
         tables.n,
         tables.m,
         tables.r,
+        tables.installed,
         &tables.requesters,
         &tables.translation,
         &tables.memory,

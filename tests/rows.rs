@@ -9,21 +9,38 @@
 //     rows.unsaid     each row that the text cannot say, and why
 // and prints how many rows there are of each sort.
 //
+// A row of a request is also asked of the plain bridge itself, on the row's own tables and installed
+// size: the whole answer and every word of state and interrupts afterwards. Exits with 1 where one is
+// another.
+//
 // A row of a request becomes a size line, a set line for each word that is not 0, and the request.
 // Then further requests show what the row leaves: both stop bits of every PE, and P and Q of every
 // interrupt that has a word other than 0. Error records, priorities and the bits of a stop word
 // above the lowest two are in no answer, so the text cannot show them.
 // A row that reason 1 answers stands before the first size line: the text has no tables there.
+// The text takes one installed size: rows with another cannot be said.
 // A row of `formed` is a request on a bridge that serves it, and a row of `sized` a size line, with
 // the last index of each table and the one after it.
 
+#[path = "../host/celltimber.rs"]
+#[allow(dead_code)]
+mod celltimber;
 mod definition;
+#[allow(dead_code)]
+mod plain_words;
+#[path = "../plain/replay.rs"]
+#[allow(dead_code)]
+mod replay;
 
 use definition::{Modules, Value};
+use plain_words::answer_words;
+use replay::bridge::{self, Bridge};
+use replay::{Line, INSTALLED};
 use std::borrow::Borrow;
 use std::env;
 use std::fs;
 use std::path::Path;
+use std::process::exit;
 
 const REQUESTERS: &str = "requesters";
 const TRANSLATION: &str = "translation";
@@ -37,6 +54,7 @@ const STATE: &str = "state";
 const TOO_LARGE: &str = "larger than the text's limits";
 const NO_SUCH_TABLE: &str = "sizes or lengths that the text cannot lend";
 const NO_SUCH_LINE: &str = "words that name no request";
+const NO_SUCH_SIZE: &str = "an installed size that the text does not take";
 const NO_REQUEST: &str = "a page table by itself, which no request asks about";
 
 /// The limits of a size line: N, M, R and memory.
@@ -134,6 +152,9 @@ fn case(out: &mut Output, names: &Modules, case: &Value) -> Result<(), &'static 
     if !in_text(sizes) {
         return Err(TOO_LARGE);
     }
+    if tables.field("installed").word() != INSTALLED {
+        return Err(NO_SUCH_SIZE);
+    }
     let live = case.field("live");
     out.size(sizes);
     out.set_all(REQUESTERS, &tables.field("requesters").words());
@@ -157,9 +178,49 @@ fn reason_1(case: &Value) -> bool {
     name == "Refuse" && parts[0].variant().0 == "TableLength"
 }
 
+/// The paper's numbers of an answer.
+fn numbered(names: &Modules, answer: &Value) -> Value {
+    names.apply(names.value("Answer", "numbered"), answer.clone())
+}
+
+/// Whether the plain bridge does what a row of a request says. Words that name no request have no
+/// form there.
+fn plain_agrees(names: &Modules, case: &Value) -> Option<bool> {
+    let line = request_fields(case.field("request")).ok()?.join("\t");
+    let Some(Line::Ask(request)) = replay::parse(line.as_bytes()) else { panic!("no request") };
+    let [tables, live, left] = ["tables", "live", "left"].map(|name| case.field(name));
+    let [n, m, r, _] = sizes_of(tables.field("sizes"), 0);
+    let narrow = |name: &str| {
+        let words = tables.field(name).words().into_iter();
+        words.map(|word| u16::try_from(word).expect("wider than its table")).collect()
+    };
+    let mut plain = Bridge {
+        n,
+        m,
+        r,
+        installed: tables.field("installed").word(),
+        requesters: narrow("requesters"),
+        translation: tables.field("entries").words(),
+        memory: case.field("memory").words(),
+        peers: tables.field("peers").words(),
+        interrupts: live.field("interrupts").words(),
+        windows: tables.field("windows").words(),
+        segments: narrow("segments"),
+        state: live.field("state").words(),
+    };
+    let numbers = numbered(names, case.field("answer"));
+    let places = ["name", "reason", "value", "words", "pe", "server", "priority", "word"];
+    let wanted = places.map(|name| numbers.field(name).word());
+    Some(
+        answer_words(plain.handle(request)) == wanted
+            && plain.state == left.field("state").words()
+            && plain.interrupts == left.field("interrupts").words(),
+    )
+}
+
 /// The answer's line, by the paper's numbers of it.
 fn write_answer(out: &mut Output, names: &Modules, answer: &Value) {
-    let numbers = names.apply(names.value("Answer", "numbered"), answer.clone());
+    let numbers = numbered(names, answer);
     let of = |name: &str| numbers.field(name).word();
     let name = ["pass", "msi", "held", "ones", "drop", "refuse", "done"][of("name") as usize];
     out.answer(name, of("reason"), of("value"), of("words"));
@@ -294,9 +355,11 @@ fn formed(out: &mut Output, request: &Value, good: bool) -> Result<(), &'static 
     match name {
         "Dma" => {
             let address = parts[0].field("address").field("0").word();
+            let offset = address & ((1 << 59) - 1);
             assert!(!(0xFFFF_0000..=0xFFFF_FFFF).contains(&address), "an MSI");
             match address >> 60 {
-                0 => out.answer("pass", 0, address & ((1 << 59) - 1), 0),
+                0 if offset + parts[0].field("length").word() > INSTALLED => out.refuse(17),
+                0 => out.answer("pass", 0, offset, 0),
                 1 => panic!("an MSI"),
                 _ => out.refuse(5),
             }
@@ -337,9 +400,16 @@ fn main() {
     let mut out = Output::default();
     let mut unsaid = Vec::new();
     let (mut said, mut early) = (0, 0);
+    let mut by_plain = [0; 2];
     for row in before.iter().chain(&after).copied().chain(limits.list()) {
         out.row = row.record().row.clone().expect("a row of a list");
         let is_limit = row.record().has("gives");
+        if let Some(agrees) = (!is_limit).then(|| plain_agrees(&names, row)).flatten() {
+            by_plain[usize::from(agrees)] += 1;
+            if !agrees {
+                println!("the plain bridge does otherwise than {}", out.row);
+            }
+        }
         let done = if is_limit { limit(&mut out, row) } else { case(&mut out, &names, row) };
         match done {
             Ok(()) => {
@@ -360,12 +430,14 @@ fn main() {
     write("rows.lines", lines(&out.rows));
     write("rows.unsaid", lines(&unsaid));
     println!(
-        "{} rows of cases A to J, {} of the second table, {} of limits: {} as text ({} of them before the first size line), {} that the text cannot say",
+        "{} rows of cases A to J, {} of the second table, {} of limits: {} as text ({} of them before the first size line), {} that the text cannot say; {} asked of the plain bridge itself",
         first.list().len(),
         second.list().len(),
         limits.list().len(),
         said,
         early,
-        unsaid.len()
+        unsaid.len(),
+        by_plain[0] + by_plain[1]
     );
+    exit(i32::from(by_plain[0] > 0));
 }

@@ -44,7 +44,7 @@ struct RequestLine {
 }
 
 /// A replay file: its size line, the tables after its set lines, and its requests. A bad line
-/// changes nothing and belongs to nobody.
+/// changes nothing and belongs to nobody. The installed size is that of the replay program.
 struct File {
     name: String,
     size: (usize, String),

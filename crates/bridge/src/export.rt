@@ -4,12 +4,13 @@ use kinds::record::Sizes;
 ghost use Rattle.bridge.specs.Promise.{RanAll};
 ghost use Rattle.tables.specs.Tables.{tables, live};
 
-// Serves the requests in `requests` on the lent tables, and writes their answers. N, M and R come first.
+// Serves the requests in `requests` on the lent tables, and writes their answers. N, M, R and the installed size in bytes come first.
 #[no_mangle]
 pub extern "C" fn celltimber_run(
     pes: u64,
     interrupt_count: u64,
     requester_count: u64,
+    installed: u64,
     requesters: &[u16],
     entries: &[u64],
     memory: &[u64],
@@ -21,7 +22,7 @@ pub extern "C" fn celltimber_run(
     requests: &[u64],
     answers: &mut [u64],
 ) -> usize
-    ensures { λ r. ⌜ RanAll (tables (record { pes = pes; interrupts = «interrupt_count»; requesters = «requester_count» }) (now (requesters .entry)) (now (entries .entry)) (now (peers .entry)) (now (windows .entry)) (now (segments .entry))) (now (memory .entry)) (now (requests .entry)) (live (now (state .entry)) (now (interrupts .entry))) (now (answers .entry)) r (live (now (state .exit)) (now (interrupts .exit))) (now (answers .exit)) ⌝ }
+    ensures { λ r. ⌜ RanAll (tables (record { pes = pes; interrupts = «interrupt_count»; requesters = «requester_count» }) installed (now (requesters .entry)) (now (entries .entry)) (now (peers .entry)) (now (windows .entry)) (now (segments .entry))) (now (memory .entry)) (now (requests .entry)) (live (now (state .entry)) (now (interrupts .entry))) (now (answers .entry)) r (live (now (state .exit)) (now (interrupts .exit))) (now (answers .exit)) ⌝ }
 {
     let sizes = Sizes {
         pes,
@@ -30,6 +31,7 @@ pub extern "C" fn celltimber_run(
     };
     run::run(
         sizes,
+        installed,
         requesters,
         entries,
         memory,

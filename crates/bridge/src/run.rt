@@ -14,6 +14,7 @@ ghost use Rattle.tables.specs.Tables.{tables, live};
 // Request `k`, served: its effect is done and its answer written.
 fn serve(
     sizes: Sizes,
+    installed: u64,
     requesters: &[u16],
     entries: &[u64],
     memory: &[u64],
@@ -27,11 +28,12 @@ fn serve(
     k: usize,
 )
     requires { ⌜ (k * requestWords + requestWords ≤ length (now requests)) × (k * answerWords + answerWords ≤ length (now answers)) ⌝ }
-    ensures { λ r. ⌜ runState (now (state .exit)) (now (interrupts .exit)) (now (answers .exit)) ≡ ranOne (tables sizes (now (requesters .entry)) (now (entries .entry)) (now (peers .entry)) (now (windows .entry)) (now (segments .entry))) (now (memory .entry)) (now (requests .entry)) (runState (now (state .entry)) (now (interrupts .entry)) (now (answers .entry))) k ⌝ }
+    ensures { λ r. ⌜ runState (now (state .exit)) (now (interrupts .exit)) (now (answers .exit)) ≡ ranOne (tables sizes installed (now (requesters .entry)) (now (entries .entry)) (now (peers .entry)) (now (windows .entry)) (now (segments .entry))) (now (memory .entry)) (now (requests .entry)) (runState (now (state .entry)) (now (interrupts .entry)) (now (answers .entry))) k ⌝ }
 {
     let request = word_lists::request_at(requests, k);
     let answer = handle::handle(
         sizes,
+        installed,
         requesters,
         entries,
         memory,
@@ -60,6 +62,7 @@ fn count_of(requests: usize, answers: usize) -> usize
 // As many whole requests as both lists of words hold are served; their number is returned, and all other words stay.
 pub fn run(
     sizes: Sizes,
+    installed: u64,
     requesters: &[u16],
     entries: &[u64],
     memory: &[u64],
@@ -71,13 +74,14 @@ pub fn run(
     requests: &[u64],
     answers: &mut [u64],
 ) -> usize
-    ensures { λ r. ⌜ RanAll (tables sizes (now (requesters .entry)) (now (entries .entry)) (now (peers .entry)) (now (windows .entry)) (now (segments .entry))) (now (memory .entry)) (now (requests .entry)) (live (now (state .entry)) (now (interrupts .entry))) (now (answers .entry)) r (live (now (state .exit)) (now (interrupts .exit))) (now (answers .exit)) ⌝ }
+    ensures { λ r. ⌜ RanAll (tables sizes installed (now (requesters .entry)) (now (entries .entry)) (now (peers .entry)) (now (windows .entry)) (now (segments .entry))) (now (memory .entry)) (now (requests .entry)) (live (now (state .entry)) (now (interrupts .entry))) (now (answers .entry)) r (live (now (state .exit)) (now (interrupts .exit))) (now (answers .exit)) ⌝ }
 {
     let count = count_of(requests.len(), answers.len());
     let mut k: usize = 0;
     while k < count {
         serve(
             sizes,
+            installed,
             requesters,
             entries,
             memory,

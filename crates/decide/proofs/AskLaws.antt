@@ -38,10 +38,10 @@ use Rattle.tables.specs.Tables.{live}
 use Rattle.decide.specs.ByRequester.{dmaOf, messageOf}
 
 -- `by_requester`
-pub by-pe : (c : ℕ) (e l t : List ℕ) (q : DmaRequest) (o : Owner) {i : Owner} {p : PeNumber} {x : Check} → i ≡ o → i ≡ Of p
-    → x ≡ shown (dmaAsked c e l (at t (stopWord p)) p q) → x ≡ shown (byOwner (dmaOf c e l t q) o)
+pub by-pe : (c b : ℕ) (e l t : List ℕ) (q : DmaRequest) (o : Owner) {i : Owner} {p : PeNumber} {x : Check} → i ≡ o → i ≡ Of p
+    → x ≡ shown (dmaAsked c b e l (at t (stopWord p)) p q) → x ≡ shown (byOwner (dmaOf c b e l t q) o)
 unfolding dmaOf
-by-pe c e l t q o found is f = of-pe (dmaOf c e l t q) o found is f
+by-pe c b e l t q o found is f = of-pe (dmaOf c b e l t q) o found is f
 
 -- `message`
 pub message : (r : ℕ) (p : PeNumber) {x : Outcome} {y : Check} → x ≡ done (Freeze (record { reason = ErrorMessage; value = r; word = noWord }) true)
@@ -50,50 +50,50 @@ unfolding messageOf
 message r p f made = made ∙ ap (λ (u : Outcome). shown (Ready p u)) f
 
 -- `ask`: what a request of each kind comes to by its owner; n is N
-module _ (z : Sizes) (r e w g t l : List ℕ) {n : ℕ} (pes : n ≡ z .pes) {y : Request} {x : Check} where
+module _ (z : Sizes) (b : ℕ) (r e w g t l : List ℕ) {n : ℕ} (pes : n ≡ z .pes) {y : Request} {x : Check} where
   pub dma-case : {q : DmaRequest} → y ≡ Dma q
-      → x ≡ shown (byOwner (dmaOf (z .interrupts) e l t q) (ofRequester n (z .requesters) r (q .requester))) → x ≡ shown (asked z r e w g (live t l) y (ownerIn z r w g l y))
+      → x ≡ shown (byOwner (dmaOf (z .interrupts) b e l t q) (ofRequester n (z .requesters) r (q .requester))) → x ≡ shown (asked z b r e w g (live t l) y (ownerIn z r w g l y))
   unfolding ask ownerIn dmaOf
-  dma-case i f = asked-case z r e w g (live t l) i (rw pes at f)
+  dma-case i f = asked-case z b r e w g (live t l) i (rw pes at f)
 
-  error-case : {q : ℕ} → y ≡ Error q → x ≡ shown (byOwner (messageOf q) (ofRequester n (z .requesters) r q)) → x ≡ shown (asked z r e w g (live t l) y (ownerIn z r w g l y))
+  error-case : {q : ℕ} → y ≡ Error q → x ≡ shown (byOwner (messageOf q) (ofRequester n (z .requesters) r q)) → x ≡ shown (asked z b r e w g (live t l) y (ownerIn z r w g l y))
   unfolding ask ownerIn messageOf
-  error-case i f = asked-case z r e w g (live t l) i (rw pes at f)
+  error-case i f = asked-case z b r e w g (live t l) i (rw pes at f)
 
   module _ {q : ℕ} {i : Owner} (is : y ≡ Error q) (found : i ≡ ofRequester n (z .requesters) r q) where
-    pub error-pe : {p : PeNumber} → i ≡ Of p → x ≡ shown (messageOf q p) → x ≡ shown (asked z r e w g (live t l) y (ownerIn z r w g l y))
+    pub error-pe : {p : PeNumber} → i ≡ Of p → x ≡ shown (messageOf q p) → x ≡ shown (asked z b r e w g (live t l) y (ownerIn z r w g l y))
     error-pe h f = error-case is (of-pe (messageOf q) (ofRequester n (z .requesters) r q) found h f)
 
-    pub error-nobody : {a : Reason} → i ≡ Nobody a → x ≡ shown (Kept (refuse a)) → x ≡ shown (asked z r e w g (live t l) y (ownerIn z r w g l y))
+    pub error-nobody : {a : Reason} → i ≡ Nobody a → x ≡ shown (Kept (refuse a)) → x ≡ shown (asked z b r e w g (live t l) y (ownerIn z r w g l y))
     error-nobody h f = error-case is (of-nobody (messageOf q) (ofRequester n (z .requesters) r q) found h f)
 
-  pub clear-case : {p : ℕ} {c : Part} → y ≡ Clear p c → x ≡ shown (byOwner (λ p. Ready p (done (Release c))) (named BadFirmware n p)) → x ≡ shown (asked z r e w g (live t l) y (ownerIn z r w g l y))
+  pub clear-case : {p : ℕ} {c : Part} → y ≡ Clear p c → x ≡ shown (byOwner (λ p. Ready p (done (Release c))) (named BadFirmware n p)) → x ≡ shown (asked z b r e w g (live t l) y (ownerIn z r w g l y))
   unfolding ask ownerIn
-  clear-case i f = asked-case z r e w g (live t l) i (rw pes at f)
+  clear-case i f = asked-case z b r e w g (live t l) i (rw pes at f)
 
   pub end-case : {k : ℕ} → y ≡ End k
-      → x ≡ shown (byOwner (λ p. Ready p (onGood (interruptIn l k) (ends k (interruptIn l k)))) (ofInterrupt n (z .interrupts) l k)) → x ≡ shown (asked z r e w g (live t l) y (ownerIn z r w g l y))
+      → x ≡ shown (byOwner (λ p. Ready p (onGood (interruptIn l k) (ends k (interruptIn l k)))) (ofInterrupt n (z .interrupts) l k)) → x ≡ shown (asked z b r e w g (live t l) y (ownerIn z r w g l y))
   unfolding ask ownerIn
-  end-case i f = asked-case z r e w g (live t l) i (rw pes at f)
+  end-case i f = asked-case z b r e w g (live t l) i (rw pes at f)
 
   pub priority-case : {k v : ℕ} → y ≡ Priority k v
-      → x ≡ shown (byOwner (λ p. Ready p (onGood (interruptIn l k) (prioritized k v (interruptIn l k)))) (ofInterrupt n (z .interrupts) l k)) → x ≡ shown (asked z r e w g (live t l) y (ownerIn z r w g l y))
+      → x ≡ shown (byOwner (λ p. Ready p (onGood (interruptIn l k) (prioritized k v (interruptIn l k)))) (ofInterrupt n (z .interrupts) l k)) → x ≡ shown (asked z b r e w g (live t l) y (ownerIn z r w g l y))
   unfolding ask ownerIn
-  priority-case i f = asked-case z r e w g (live t l) i (rw pes at f)
+  priority-case i f = asked-case z b r e w g (live t l) i (rw pes at f)
 
   module _ {a : ByteAddress} {v : ℕ} {h : Hit} (hit : h ≡ route w g a) where
     pub load-case : {c : ℕ} → y ≡ Load a v → formed y ≡ true → c ≡ onesOf (min v 8)
-        → x ≡ shown (byOwner (λ p. Kept (accessed h p (at t (stopWord p)) (Ones c))) (ofHit n h)) → x ≡ shown (asked z r e w g (live t l) y (ownerIn z r w g l y))
+        → x ≡ shown (byOwner (λ p. Kept (accessed h p (at t (stopWord p)) (Ones c))) (ofHit n h)) → x ≡ shown (asked z b r e w g (live t l) y (ownerIn z r w g l y))
     unfolding ask ownerIn formed
     load-case {c} i good o f =
         let ones : c ≡ onesOf v = o ∙ ones-formed a v (rw i at good) in
-        asked-case z r e w g (live t l) i (rw (hit, ones, pes) at f)
+        asked-case z b r e w g (live t l) i (rw (hit, ones, pes) at f)
 
-    pub store-case : y ≡ Store a v → x ≡ shown (byOwner (λ p. Kept (accessed h p (at t (stopWord p)) Drop)) (ofHit n h)) → x ≡ shown (asked z r e w g (live t l) y (ownerIn z r w g l y))
+    pub store-case : y ≡ Store a v → x ≡ shown (byOwner (λ p. Kept (accessed h p (at t (stopWord p)) Drop)) (ofHit n h)) → x ≡ shown (asked z b r e w g (live t l) y (ownerIn z r w g l y))
     unfolding ask ownerIn
-    store-case i f = asked-case z r e w g (live t l) i (rw (hit, pes) at f)
+    store-case i f = asked-case z b r e w g (live t l) i (rw (hit, pes) at f)
 
-pub unnamed-case : (z : Sizes) (r e w g t l : List ℕ) {y : Request} {x : Check} → y ≡ Unnamed → x ≡ shown (Kept (refuse BadRequest))
-    → x ≡ shown (asked z r e w g (live t l) y (ownerIn z r w g l y))
+pub unnamed-case : (z : Sizes) (b : ℕ) (r e w g t l : List ℕ) {y : Request} {x : Check} → y ≡ Unnamed → x ≡ shown (Kept (refuse BadRequest))
+    → x ≡ shown (asked z b r e w g (live t l) y (ownerIn z r w g l y))
 unfolding asked ownerIn
-unnamed-case z r e w g t l i f = f ∙ rw i
+unnamed-case z b r e w g t l i f = f ∙ rw i

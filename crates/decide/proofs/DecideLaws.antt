@@ -27,25 +27,25 @@ pes-fits z l i o = omega (arith, sized-pes z l (rw i at o))
 pub form-good : (y : Request) {good : Bool} → good ≡ formed y → good ≡ true → formed y ≡ true
 form-good y g h = rw g at h
 
-module _ (z : Sizes) (n : Lengths) (r e w g : List ℕ) (s : Live) (y : Request) {ok : Bool} (i : ok ≡ sized z n) where
+module _ (z : Sizes) (n : Lengths) (b : ℕ) (r e w g : List ℕ) (s : Live) (y : Request) {ok : Bool} (i : ok ≡ sized z n) where
   pub checked-asked : {good : Bool} {x : Check} → ok ≡ true → good ≡ formed y → good ≡ true
-      → x ≡ shown (asked z r e w g s y (ownerIn z r w g (s .interrupts) y)) → x ≡ shown (checked z r e w g s (sized z n) y)
+      → x ≡ shown (asked z b r e w g s y (ownerIn z r w g (s .interrupts) y)) → x ≡ shown (checked z b r e w g s (sized z n) y)
   unfolding checked
   checked-asked o f h x = x ∙ rw (← i, o, ← f, h)
 
   pub checked-formed : {good : Bool} {x : Check} → ok ≡ true → good ≡ formed y → good ≡ false → x ≡ shown (Kept (refuse BadRequest))
-      → x ≡ shown (checked z r e w g s (sized z n) y)
+      → x ≡ shown (checked z b r e w g s (sized z n) y)
   unfolding checked
   checked-formed o f h x = x ∙ rw (← i, o, ← f, h)
 
-  pub checked-sized : {x : Check} → ok ≡ false → x ≡ shown (Kept (refuse TableLength)) → x ≡ shown (checked z r e w g s (sized z n) y)
+  pub checked-sized : {x : Check} → ok ≡ false → x ≡ shown (Kept (refuse TableLength)) → x ≡ shown (checked z b r e w g s (sized z n) y)
   unfolding checked
   checked-sized o x = x ∙ rw (← i, o)
 
 -- `finish`
-module _ (m : List ℕ) (c : Check) where
-  pub finish-walk : {o : Outcome} → c .walks ≡ true → o ≡ finish m (Walk (c .pe) (c .entry) (c .dma)) → o ≡ finished m c
+module _ (b : ℕ) (m : List ℕ) (c : Check) where
+  pub finish-walk : {o : Outcome} → c .walks ≡ true → o ≡ finish b m (Walk (c .pe) (c .entry) (c .dma)) → o ≡ finished b m c
   finish-walk h f = f ∙ rw h
 
-  pub finish-known : c .walks ≡ false → c .outcome ≡ finished m c
+  pub finish-known : c .walks ≡ false → c .outcome ≡ finished b m c
   finish-known h = rw h

@@ -1,5 +1,5 @@
 -- What is left after the checks, as the code has them.
---     finished m c        the outcome by the check c: by the walk, the only reader of memory, or as it is known
+--     finished i m c      the outcome by the check c: by the walk, the only reader of memory, or as it is known; i is the installed size
 -- Assumes nothing.
 use mathlib.Core.Bool.{cond}
 use mathlib.Core.List.{List}
@@ -9,5 +9,5 @@ use Rattle.kinds.specs.declared.outcome.Check.{Check}
 use Rattle.kinds.specs.declared.outcome.Outcome.{Outcome}
 use Rattle.profile.specs.Step.{finish}
 
-abbrev pub finished : List ℕ → Check → Outcome
-finished m c = cond (c .walks) (finish m (Walk (c .pe) (c .entry) (c .dma))) (c .outcome)
+abbrev pub finished : (installed : ℕ) → List ℕ → Check → Outcome
+finished i m c = cond (c .walks) (finish i m (Walk (c .pe) (c .entry) (c .dma))) (c .outcome)

@@ -16,16 +16,16 @@ use Rattle.profile.specs.Step.{finish, checked, checkedOn, decided}
 use Rattle.profile.specs.Tables.{Tables, Live, lengths, sized}
 use Rattle.decide.specs.Finished.{finished}
 
-pub finished-is : (m : List ℕ) (x : Checked) → finished m (shown x) ≡ finish m x
+pub finished-is : (i : ℕ) (m : List ℕ) (x : Checked) → finished i m (shown x) ≡ finish i m x
 unfolding shown finish
-finished-is m (Kept a) = refl
-finished-is m (Ready p o) = refl
-finished-is m (Walk p e q) = refl
+finished-is i m (Kept a) = refl
+finished-is i m (Ready p o) = refl
+finished-is i m (Walk p e q) = refl
 
 module _ (f : Tables) (m : List ℕ) (s : Live) (q : Request) {k : Lengths} {c : Check} (measured : k ≡ lengths f (length m) s)
-    (checks : c ≡ shown (checked (f .sizes) (f .requesters) (f .entries) (f .windows) (f .segments) s (sized (f .sizes) k) q)) where
+    (checks : c ≡ shown (checked (f .sizes) (f .installed) (f .requesters) (f .entries) (f .windows) (f .segments) s (sized (f .sizes) k) q)) where
   pub checked-is : c ≡ shown (checkedOn f (length m) s q)
   checked-is = checks ∙ rw measured
 
-  pub decided-is : {o : Outcome} → o ≡ finished m c → o ≡ decided f m s q
-  decided-is h = h ∙ rw checked-is (finished-is m (checkedOn f (length m) s q))
+  pub decided-is : {o : Outcome} → o ≡ finished (f .installed) m c → o ≡ decided f m s q
+  decided-is h = h ∙ rw checked-is (finished-is (f .installed) m (checkedOn f (length m) s q))

@@ -32,22 +32,23 @@ ghost use Rattle.tables.specs.Tables.{tables, live};
 ghost use Rattle.decide.specs.ByRequester.{dmaOf, messageOf};
 ghost use Rattle.decide.specs.Finished.{finished};
 
-// A DMA, by its requester. N, M and R come first.
+// A DMA, by its requester. N, M, R and the installed size come first.
 fn by_requester(
     pes: u16,
     interrupt: u64,
     count: u64,
+    installed: u64,
     requesters: &[u16],
     entries: &[u64],
     interrupts: &[u64],
     state: &[u64],
     dma: DmaRequest,
 ) -> Check
-    ensures { λ r. ⌜ r ≡ shown (byOwner (dmaOf interrupt (now (entries .entry)) (now (interrupts .entry)) (now (state .entry)) dma) (ofRequester pes count (now (requesters .entry)) (dma .requester))) ⌝ }
+    ensures { λ r. ⌜ r ≡ shown (byOwner (dmaOf interrupt installed (now (entries .entry)) (now (interrupts .entry)) (now (state .entry)) dma) (ofRequester pes count (now (requesters .entry)) (dma .requester))) ⌝ }
 {
     match owners::of_requester(pes, count, requesters, dma.requester) {
         Owner::Of(pe) => {
-            return dma::check_dma(interrupt, entries, interrupts, state, pe, dma);
+            return dma::check_dma(interrupt, installed, entries, interrupts, state, pe, dma);
         }
         Owner::Nobody(reason) => {
             return outcomes::refuse(reason);
@@ -72,6 +73,7 @@ fn message(pe: PeNumber, requester: u64) -> Check
 fn ask(
     pes: u16,
     sizes: Sizes,
+    installed: u64,
     requesters: &[u16],
     entries: &[u64],
     interrupts: &[u64],
@@ -81,7 +83,7 @@ fn ask(
     request: Request,
 ) -> Check
     requires { ⌜ (formed request ≡ true) × (pes ≡ sizes .pes) ⌝ }
-    ensures { λ r. ⌜ r ≡ shown (asked sizes (now (requesters .entry)) (now (entries .entry)) (now (windows .entry)) (now (segments .entry)) (live (now (state .entry)) (now (interrupts .entry))) request (ownerIn sizes (now (requesters .entry)) (now (windows .entry)) (now (segments .entry)) (now (interrupts .entry)) request)) ⌝ }
+    ensures { λ r. ⌜ r ≡ shown (asked sizes installed (now (requesters .entry)) (now (entries .entry)) (now (windows .entry)) (now (segments .entry)) (live (now (state .entry)) (now (interrupts .entry))) request (ownerIn sizes (now (requesters .entry)) (now (windows .entry)) (now (segments .entry)) (now (interrupts .entry)) request)) ⌝ }
 {
     match request {
         Request::Dma(dma) => {
@@ -89,6 +91,7 @@ fn ask(
                 pes,
                 sizes.interrupts,
                 sizes.requesters,
+                installed,
                 requesters,
                 entries,
                 interrupts,
@@ -136,6 +139,7 @@ fn ask(
 // All checks before the walk. No memory is lent: its length is among the lengths.
 pub fn check(
     sizes: Sizes,
+    installed: u64,
     lengths: Lengths,
     requesters: &[u16],
     entries: &[u64],
@@ -145,13 +149,14 @@ pub fn check(
     state: &[u64],
     request: Request,
 ) -> Check
-    ensures { λ r. ⌜ r ≡ shown (checked sizes (now (requesters .entry)) (now (entries .entry)) (now (windows .entry)) (now (segments .entry)) (live (now (state .entry)) (now (interrupts .entry))) (sized sizes lengths) request) ⌝ }
+    ensures { λ r. ⌜ r ≡ shown (checked sizes installed (now (requesters .entry)) (now (entries .entry)) (now (windows .entry)) (now (segments .entry)) (live (now (state .entry)) (now (interrupts .entry))) (sized sizes lengths) request) ⌝ }
 {
     if sizes::sized(sizes, lengths) {
         if forms::is_formed(request) {
             return ask(
                 sizes.pes as u16,
                 sizes,
+                installed,
                 requesters,
                 entries,
                 interrupts,
@@ -166,14 +171,14 @@ pub fn check(
     outcomes::refuse(Reason::TableLength)
 }
 
-// What is left after the checks: the walk, the only reader of memory.
-pub fn finish(memory: &[u64], check: Check) -> Outcome
-    ensures { λ r. ⌜ r ≡ finished (now (memory .entry)) check ⌝ }
+// What is left after the checks: the walk, the only reader of memory. The installed size comes first.
+pub fn finish(installed: u64, memory: &[u64], check: Check) -> Outcome
+    ensures { λ r. ⌜ r ≡ finished installed (now (memory .entry)) check ⌝ }
 {
     if check.walks {
         let entry = check.entry;
         let dma = check.dma;
-        return dma::finish_walk(memory, check.pe, entry, dma);
+        return dma::finish_walk(installed, memory, check.pe, entry, dma);
     }
     check.outcome
 }
@@ -181,6 +186,7 @@ pub fn finish(memory: &[u64], check: Check) -> Outcome
 // The answer to a request and its effect, whatever the lengths of the tables.
 pub fn decide(
     sizes: Sizes,
+    installed: u64,
     requesters: &[u16],
     entries: &[u64],
     memory: &[u64],
@@ -191,7 +197,7 @@ pub fn decide(
     state: &[u64],
     request: Request,
 ) -> Outcome
-    ensures { λ r. ⌜ r ≡ decided (tables sizes (now (requesters .entry)) (now (entries .entry)) (now (peers .entry)) (now (windows .entry)) (now (segments .entry))) (now (memory .entry)) (live (now (state .entry)) (now (interrupts .entry))) request ⌝ }
+    ensures { λ r. ⌜ r ≡ decided (tables sizes installed (now (requesters .entry)) (now (entries .entry)) (now (peers .entry)) (now (windows .entry)) (now (segments .entry))) (now (memory .entry)) (live (now (state .entry)) (now (interrupts .entry))) request ⌝ }
 {
     let lengths = sizes::lengths_of(
         requesters,
@@ -205,6 +211,7 @@ pub fn decide(
     );
     let checked = check(
         sizes,
+        installed,
         lengths,
         requesters,
         entries,
@@ -214,5 +221,5 @@ pub fn decide(
         state,
         request,
     );
-    finish(memory, checked)
+    finish(installed, memory, checked)
 }

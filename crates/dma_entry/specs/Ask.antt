@@ -2,9 +2,10 @@
 --     askedBypass e o     an entry whose page code is 0
 --     askedPages e o      an entry with another page code
 --     asked e o           any entry
+--     isWalk x            way x is a walk of the page table
 --     ended x o           what offset o comes to by way x, with no word of memory asked for; a walk is none of these
 -- Assumes nothing.
-use mathlib.Core.Bool.{cond}
+use mathlib.Core.Bool.{Bool, true, false, cond}
 use Prim.Native.Nat.{_^_}
 use lib.Dec.{ltb}
 use Rattle.kinds.specs.Number.{noWord}
@@ -25,6 +26,12 @@ askedPages e o = cond (pagesGood e) (cond (ltb (o .0) (2 ^ span e)) (Walk (pageS
 
 abbrev pub asked : TranslationEntry → (offset : ByteAddress) → Way
 asked e o = cond (tableGood e) (cond (bypass e) (askedBypass e o) (askedPages e o)) BadEntry
+
+abbrev pub isWalk : Way → Bool
+isWalk (Walk s) = true
+isWalk Bypass = false
+isWalk BadEntry = false
+isWalk OutsideWindow = false
 
 abbrev pub ended : Way → (offset : ByteAddress) → Translated
 ended (Walk s) o = Fault reason.BadEntry noWord

@@ -1,27 +1,20 @@
 -- What is asked of an entry is what `profile` says.
 --     asked-walk          THE LAW: the page table is walked where `walks` holds, by its page size; asked-ends: and else the offset comes to `unwalked`
 --     good-span           of a good entry with pages: the span is small
---     walked-walks, other-walks   what was asked tells whether the page table is walked (isWalk); other-ends: and what the offset comes to
+--     walk-walks, other-walks     what was asked tells whether the page table is walked (isWalk); other-ends: and what the offset comes to
 -- Assumes nothing.
 use mathlib.Core.Path.{_≡_, refl, sym, ap, _∙_}
-use mathlib.Core.Bool.{Bool, true, false}
+use mathlib.Core.Bool.{true, false}
 use Prim.Native.Nat.{_^_, _≤_}
 use lib.Dec.{ltb}
 use borrow.Author.Tests.{leb-true}
 use Rattle.kinds.specs.Tests.{by-cases, clash, all-true}
 use Rattle.kinds.specs.declared.number.ByteAddress.{ByteAddress}
-use Rattle.kinds.specs.declared.number.PageSize.{PageSize}
 use Rattle.kinds.specs.declared.record.TranslationEntry.{TranslationEntry}
 use Rattle.profile.specs.Entry.{pageSize, span, offsetBits, tableGood, bypass, bypassGood, inBypass, pageTests, pagesGood, paged, walks, unwalked}
-use Rattle.dma_entry.specs.Ask.{asked, ended}
+use Rattle.dma_entry.specs.Ask.{asked, isWalk, ended}
 use Rattle.dma_entry.specs.declared.ask.Way.{Way}
-use Rattle.dma_entry.specs.declared.ask.Way.the-variants.{Walk, Bypass, BadEntry, OutsideWindow}
-
-abbrev pub isWalk : Way → Bool
-isWalk (Walk s) = true
-isWalk Bypass = false
-isWalk BadEntry = false
-isWalk OutsideWindow = false
+use Rattle.dma_entry.specs.declared.ask.Way.the-variants.{Walk}
 
 module _ (e : TranslationEntry) (o : ByteAddress) where
   pub asked-walk : walks e o ≡ true → asked e o ≡ Walk (pageSize e)
@@ -53,12 +46,12 @@ good-span e good = leb-true (span e) offsetBits (all-true (pageTests e) 4 good)
 
 -- what was asked
 module _ (e : TranslationEntry) (o : ByteAddress) {c : Way} (asks : c ≡ asked e o) where
-  pub walked-walks : {s : PageSize} → c ≡ Walk s → walks e o ≡ true
-  walked-walks z = by-cases (walks e o) (λ t. t) (λ t. clash (ap isWalk (sym asks ∙ z)) (asked-ends e o t .0))
+  pub walk-walks : isWalk c ≡ true → walks e o ≡ true
+  walk-walks n = by-cases (walks e o) (λ t. t) (λ t. clash (rw asks at n) (asked-ends e o t .0))
 
   -- another way
-  pub other-walks : {x : Way} → c ≡ x → isWalk x ≡ false → walks e o ≡ false
-  other-walks {x} z n = by-cases (walks e o) (λ t. clash (ap isWalk (sym z ∙ asks ∙ asked-walk e o t)) n) (λ t. t)
+  pub other-walks : isWalk c ≡ false → walks e o ≡ false
+  other-walks n = by-cases (walks e o) (λ t. clash (ap isWalk (asks ∙ asked-walk e o t)) n) (λ t. t)
 
-  pub other-ends : {x : Way} → c ≡ x → isWalk x ≡ false → unwalked e o ≡ ended x o
-  other-ends z n = sym (asked-ends e o (other-walks z n) .1) ∙ rw (← asks, z)
+  pub other-ends : isWalk c ≡ false → unwalked e o ≡ ended c o
+  other-ends n = sym (asked-ends e o (other-walks n) .1) ∙ rw (← asks)

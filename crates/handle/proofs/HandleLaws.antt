@@ -54,7 +54,7 @@ module _ (n : ℕ) (v : List ℕ) (p : PeNumber) {e : Effect} (s l : List ℕ) w
 
 -- an effect is done at the owner
 placed : (f : Tables) (m : List ℕ) (o : Owner) (x : Checked) (s : Live) → Placed o x
-    → act (f .sizes .pes) (f .peers) (shown x .pe) (finish m x .effect) s ≡ actBy f o (finish m x .effect) s
+    → act (f .sizes .pes) (f .peers) (shown x .pe) (finish (f .installed) m x .effect) s ≡ actBy f o (finish (f .installed) m x .effect) s
 unfolding shown finish actBy act
 placed f m (Of p) (Kept a) s h = refl
 placed f m (Nobody r) (Kept a) s h = refl
@@ -62,11 +62,11 @@ placed f m o (Ready p x) s h = rw h
 placed f m o (Walk p r q) s h = rw h
 
 -- a request that is answered: nothing is done
-kept-out : (m : List ℕ) (x : Checked) → shown x .kept ≡ true → finish m x ≡ shown x .outcome
+kept-out : (i : ℕ) (m : List ℕ) (x : Checked) → shown x .kept ≡ true → finish i m x ≡ shown x .outcome
 unfolding shown finish
-kept-out m (Kept a) h = refl
-kept-out m (Ready p o) h = refl
-kept-out m (Walk p r q) h = clash h refl
+kept-out i m (Kept a) h = refl
+kept-out i m (Ready p o) h = refl
+kept-out i m (Walk p r q) h = clash h refl
 
 kept-still : (x : Checked) → shown x .kept ≡ true → shown x .outcome .effect ≡ Keep
 unfolding shown
@@ -81,7 +81,7 @@ still f (Nobody r) s = refl
 
 -- `handle`
 module _ (f : Tables) (m : List ℕ) (s : Live) (q : Request) {k : Lengths} {c : Check} (measured : k ≡ lengths f (length m) s)
-    (checks : c ≡ shown (checked (f .sizes) (f .requesters) (f .entries) (f .windows) (f .segments) s (sized (f .sizes) k) q)) where
+    (checks : c ≡ shown (checked (f .sizes) (f .installed) (f .requesters) (f .entries) (f .windows) (f .segments) s (sized (f .sizes) k) q)) where
   abbrev x : Checked
   x = checkedOn f (length m) s q
 
@@ -91,8 +91,8 @@ module _ (f : Tables) (m : List ℕ) (s : Live) (q : Request) {k : Lengths} {c :
   pub handled-kept : c .kept ≡ true → Handled f m s q (c .outcome .answer) s
   handled-kept h =
       let kept-is : shown x .kept ≡ true = rw is at h in
-      let said : c .outcome ≡ decided f m s q = ap (λ (u : Check). u .outcome) is ∙ sym (kept-out m x kept-is) in
-      let quiet : decided f m s q .effect ≡ Keep = rw (kept-out m x kept-is) (kept-still x kept-is) in
+      let said : c .outcome ≡ decided f m s q = ap (λ (u : Check). u .outcome) is ∙ sym (kept-out (f .installed) m x kept-is) in
+      let quiet : decided f m s q .effect ≡ Keep = rw (kept-out (f .installed) m x kept-is) (kept-still x kept-is) in
       record {
         answers = ap (λ (u : Outcome). u .answer) said;
         numbers = ap (λ (u : Outcome). numbered (u .answer)) said;
@@ -100,14 +100,14 @@ module _ (f : Tables) (m : List ℕ) (s : Live) (q : Request) {k : Lengths} {c :
         isolation = isolation;
       }
 
-  module _ {o : Outcome} (ends : o ≡ finished m c) where
+  module _ {o : Outcome} (ends : o ≡ finished (f .installed) m c) where
     said : o ≡ decided f m s q
     said = decided-is f m s q measured checks ends
 
     at-owner : act (f .sizes .pes) (f .peers) (c .pe) (o .effect) s ≡ after f m s q
     at-owner =
         rw (said, is) (placed f m (owner f s q) x s
-        (checked-owner (f .sizes) (f .requesters) (f .entries) (f .windows) (f .segments) s (sized (f .sizes) (lengths f (length m) s)) q))
+        (checked-owner (f .sizes) (f .installed) (f .requesters) (f .entries) (f .windows) (f .segments) s (sized (f .sizes) (lengths f (length m) s)) q))
 
     pub handled : {t : Live} → t ≡ act (f .sizes .pes) (f .peers) (c .pe) (o .effect) s → Handled f m s q (o .answer) t
     handled acts = record {

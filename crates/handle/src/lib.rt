@@ -66,6 +66,7 @@ pub(crate) fn act_at(
 // Any request on any tables.
 pub fn handle(
     sizes: Sizes,
+    installed: u64,
     requesters: &[u16],
     entries: &[u64],
     memory: &[u64],
@@ -76,7 +77,7 @@ pub fn handle(
     state: &mut [u64],
     request: Request,
 ) -> Answer
-    ensures { λ r. ⌜ Handled (tables sizes (now (requesters .entry)) (now (entries .entry)) (now (peers .entry)) (now (windows .entry)) (now (segments .entry))) (now (memory .entry)) (live (now (state .entry)) (now (interrupts .entry))) request r (live (now (state .exit)) (now (interrupts .exit))) ⌝ }
+    ensures { λ r. ⌜ Handled (tables sizes installed (now (requesters .entry)) (now (entries .entry)) (now (peers .entry)) (now (windows .entry)) (now (segments .entry))) (now (memory .entry)) (live (now (state .entry)) (now (interrupts .entry))) request r (live (now (state .exit)) (now (interrupts .exit))) ⌝ }
 {
     let lengths = sizes::lengths_of(
         requesters,
@@ -90,6 +91,7 @@ pub fn handle(
     );
     let checked = decide::check(
         sizes,
+        installed,
         lengths,
         requesters,
         entries,
@@ -103,7 +105,7 @@ pub fn handle(
         let known = checked.outcome;
         return known.answer;
     }
-    let outcome = decide::finish(memory, checked);
+    let outcome = decide::finish(installed, memory, checked);
     let effect = outcome.effect;
     act_at(sizes.pes, peers, interrupts, state, checked.pe, effect);
     outcome.answer

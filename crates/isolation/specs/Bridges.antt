@@ -1,10 +1,11 @@
 -- Bridges and lists for the witness of demand 3.
---     group               PEs 1 and 2 of four. PE 1 is in bypass and lists PE 2; PE 2 has a page table of two levels and lists PE 3. PEs 0 and 3 are
+--     group               PEs 1 and 2 of four. PE 1 is in bypass, of which a part is above the installed size, and lists PE 2; PE 2 has a page table of two levels and lists PE 3. PEs 0 and 3 are
 --                         outside and list each other
 --     Private             the words that the group does not see: entries, state and interrupts by place, and memory after the group's tables
 --     bridge w            the bridge whose private words outside the group are those of w, and so are the upper bits of the group's own stop words
 --     words x             words by which PEs 0 and 3 have a page table: for x = 1 of one level with pages of 4 KiB, for x = 2 of two levels with pages of
---                         64 KiB and larger tables. Their second entry is bad, and their reason is 0 for x = 1
+--                         64 KiB and larger tables. Word 5 of each leads above 4 GiB, the installed size. Their second entry is bad, and their reason is
+--                         0 for x = 1
 --     first, second       the two bridges: of `words 1` and of `words 2`
 --     list, other         two lists whose own requests are equal, and which differ in those of PEs 0 and 3 and of nobody
 --     tableWords          the words of a table of table code 1
@@ -14,7 +15,7 @@
 -- Assumes nothing.
 use mathlib.Core.Bool.{Bool, cond, _&&_}
 use mathlib.Core.List.{List, [], _∷_, _++_, map}
-use Prim.Native.Nat.{ℕ, zero, suc, _+_, _-_, _*_, _%_}
+use Prim.Native.Nat.{ℕ, zero, suc, _+_, _-_, _*_, _%_, _^_}
 use lib.Dec.{leb, eqb}
 use lib.ListN.{set, replicate}
 use Rattle.kinds.specs.Words.{at}
@@ -58,10 +59,11 @@ insider w p = row (w .state (stopWord (pe p)) * 4) 0 0 0
 unfoldable pub tables : Private → Tables
 tables w = record {
   sizes = record { pes = 4; interrupts = 4; requesters = 5 };
+  installed = 2 ^ 32;
   requesters = 0 ∷ 1 ∷ 2 ∷ 3 ∷ 9 ∷ [];
   entries =
       map (w .entries) (places 0 entryWords)
-      ++ (1 ∷ 2 ∷ 1 ∷ 0 ∷ 0 ∷ 0 ∷ 0 ∷ 0
+      ++ (1 ∷ 512 ∷ 1 ∷ 0 ∷ 0 ∷ 0 ∷ 0 ∷ 0
       ∷ 0 ∷ 2 ∷ 1 ∷ 1 ∷ 0 ∷ 0 ∷ 0 ∷ 0
       ∷ map (w .entries) (places (3 * entryWords) entryWords));
   peers = 8 ∷ 0 ∷ 0 ∷ 0 ∷ 4 ∷ 0 ∷ 0 ∷ 0 ∷ 8 ∷ 0 ∷ 0 ∷ 0 ∷ 1 ∷ 0 ∷ 0 ∷ 0 ∷ [];
@@ -99,7 +101,7 @@ words x = record {
   entries = λ k. at (0x2000 * x ∷ x ∷ x ∷ (4 * x - 3) ∷ replicate recordWords x) (k % entryWords);
   state = λ k. cond (eqb (k % stateWords) 1) (x - 1) x;
   interrupts = λ k. x;
-  memory = replicate (2 * tableWords) (0x1110000 * x + 3) ++ ((0x1000 * x + 3) ∷ []);
+  memory = set (replicate (2 * tableWords) (0x1110000 * x + 3)) 5 (0x101110000 * x + 3) ++ ((0x1000 * x + 3) ∷ []);
 }
 
 abbrev pub first : Bridge
@@ -125,6 +127,7 @@ list =
     ∷ dma 1 Read 0x1000000 0
     ∷ dma 0 Write 0x1000000000000000 0
     ∷ dma 1 Write 0x1000000000000000 1
+    ∷ dma 1 Read 0x180000000 0
     ∷ dma 4 Read 0x1000 0
     ∷ load 0x100300010 3
     ∷ dma 0 Read 0x800000000001000 0
@@ -137,13 +140,15 @@ list =
 
 unfoldable pub other : List Request
 other =
-    -- PE 0 is stopped from the start, released, translates by another table, and freezes PE 3 by an error message
+    -- PE 0 is stopped from the start, released, translates by another table, is frozen above the installed size, and freezes PE 3 by an error message
     dma 2 Write 0x403010 0
     ∷ dma 1 Read 0x1000000 0
     ∷ dma 0 Write 0x3ABC 0
     ∷ Clear 0 part.Dma
     ∷ dma 0 Write 0x3ABC 0
+    ∷ dma 0 Read 0x50000 0
     ∷ dma 1 Write 0x1000000000000000 1
+    ∷ dma 1 Read 0x180000000 0
     ∷ load 0x100300010 3
     ∷ Error 0
     ∷ Priority 3 300

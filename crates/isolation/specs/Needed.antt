@@ -42,7 +42,7 @@ use Rattle.isolation.specs.Isolation.{own, answers, left, isolation}
 use Rattle.isolation.specs.Bridges.{pe, row, dma, load}
 
 pub data Premise : Type 0 where
-  NotListed SameRequests SameN SameM SameR : Premise
+  NotListed SameRequests SameN SameM SameR SameInstalled : Premise
   SameEntriesLength SameMemoryLength SameInterruptsLength SameStateLength : Premise
   SameRequesters SamePeers SameWindows SameSegments SameInterruptPe : Premise
   SameServer SamePriority SameBits SameMmio SameDma SameReason SameValue SameFailedWord : Premise
@@ -69,6 +69,7 @@ module _ (G : PeNumber → Bool) (a b : Bridge) (l k : List Request) where
   Holds SameN = a .tables .sizes .pes ≡ b .tables .sizes .pes
   Holds SameM = a .tables .sizes .interrupts ≡ b .tables .sizes .interrupts
   Holds SameR = a .tables .sizes .requesters ≡ b .tables .sizes .requesters
+  Holds SameInstalled = a .tables .installed ≡ b .tables .installed
   Holds SameEntriesLength = length (a .tables .entries) ≡ length (b .tables .entries)
   Holds SameMemoryLength = length (a .memory) ≡ length (b .memory)
   Holds SameInterruptsLength = length (a .live .interrupts) ≡ length (b .live .interrupts)
@@ -96,6 +97,7 @@ module _ (G : PeNumber → Bool) (a b : Bridge) (l k : List Request) where
   premises c v o SameN = ap (λ (z : Sizes). z .pes) (v .public .sizes)
   premises c v o SameM = ap (λ (z : Sizes). z .interrupts) (v .public .sizes)
   premises c v o SameR = ap (λ (z : Sizes). z .requesters) (v .public .sizes)
+  premises c v o SameInstalled = v .public .installed
   premises c v o SameEntriesLength = ap (λ (n : Lengths). n .entries) (v .public .all-lengths)
   premises c v o SameMemoryLength = ap (λ (n : Lengths). n .memory) (v .public .all-lengths)
   premises c v o SameInterruptsLength = ap (λ (n : Lengths). n .interrupts) (v .public .all-lengths)
@@ -123,6 +125,7 @@ module _ (G : PeNumber → Bool) (a b : Bridge) (l k : List Request) where
       sizes =
           let z : a .tables .sizes ≡ sizes (a .tables .sizes .pes) (a .tables .sizes .interrupts) (a .tables .sizes .requesters) = refl in
           rw (z, h SameN, h SameM, h SameR);
+      installed = h SameInstalled;
       all-lengths = rw (
         h SameRequesters,
         h SameEntriesLength,
@@ -187,6 +190,7 @@ code SameFailedWord = 21
 code SameFirstEntry = 22
 code SameSecondEntry = 23
 code SameTableWord = 24
+code SameInstalled = 25
 
 pub record Counterexample (x : Premise) : Type 0 where
   pub group : PeNumber → Bool
@@ -205,6 +209,7 @@ unfoldable bridge : (Premise → ℕ) → Bridge
 bridge d = record {
   tables = record {
     sizes = sizes (2 + d SameN) (1 + d SameM) (2 + d SameR);
+    installed = 0x12345FFF + d SameInstalled;
     requesters = d SameRequesters ∷ 1 ∷ [];
     entries =
         replicate entryWords 0
@@ -280,6 +285,7 @@ module _ (a b : Bool) (d : Premise → ℕ) (l k : List Request) (c : d NotListe
   met SameN e = rw e
   met SameM e = rw e
   met SameR e = rw e
+  met SameInstalled e = rw e
   met SameEntriesLength e = rw e
   met SameMemoryLength e = rw e
   met SameInterruptsLength e = rw e
@@ -368,6 +374,8 @@ needed SameRequests =
 needed SameN = differs 1 false (read 1 ∷ []) refl refl refl
 needed SameM = differs 1 false (read 1 ∷ []) refl refl refl
 needed SameR = differs 1 false (read 1 ∷ []) refl refl refl
+-- the last byte of PE 1's page is above the installed size in the first, and below it in the second
+needed SameInstalled = differs 1 false (dma 1 Read 0x3FFC 0 ∷ []) refl refl refl
 -- one word more in the second, which is reason 1; in memory it is not, but a walk then finds the word that it asks for
 needed SameEntriesLength = differs 1 false (read 1 ∷ []) refl refl refl
 needed SameMemoryLength = differs 1 false (dma 1 Read 0x4000 0 ∷ []) refl refl refl

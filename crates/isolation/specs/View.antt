@@ -1,7 +1,7 @@
 -- What a group of PEs sees of a bridge, in the words of demand 3.
 --     Bridge              the fixed tables, memory, and what is written
 --     bridgeLengths a     the lengths of its tables
---     Public a b          equal in all that 01 calls public
+--     Public a b          equal in all that 01 calls public, and in the installed size, which is public by 02, [7]
 --     Written G n s t     the group's stop bits, error records and interrupt records are equal, n being M
 --     View G a b          all that demand 3 asks of two bridges, G being the group
 --     Agreed G a b        the relations that the laws of one request are written in, together
@@ -31,6 +31,8 @@ bridgeLengths a = lengths (a .tables) (length (a .memory)) (a .live)
 pub record Public (a b : Bridge) : Type 0 where
   -- N, M and R
   pub sizes : a .tables .sizes ≡ b .tables .sizes
+  -- the installed size
+  pub installed : a .tables .installed ≡ b .tables .installed
   -- all lengths
   pub all-lengths : bridgeLengths a ≡ bridgeLengths b
   -- requesters, peers, windows, segments

@@ -79,6 +79,7 @@ module _ {G : PeNumber → Bool} {a b : Bridge} where
   tables-agree : View G a b → Alike G (a .tables) (b .tables)
   tables-agree v = record {
     sizes = v .public .sizes;
+    installed = v .public .installed;
     requesters = v .public .requesters;
     peers = v .public .peers;
     windows = v .public .windows;
@@ -107,6 +108,7 @@ module _ {G : PeNumber → Bool} {a b : Bridge} where
   public-agrees : Agreed G a b → Public a b
   public-agrees r = record {
     sizes = r .tables .sizes;
+    installed = r .tables .installed;
     all-lengths = rw (
       r .tables .requesters,
       r .tables .entries-length,

@@ -6,7 +6,7 @@
 --                         ownStops, own-stops: the group's stop words, whose upper bits are those of w
 --     all-differ          each of all these words differs between the two bridges
 --     list-answers, other-answers     what each request of the two lists is answered: one DMA of PE 0 passes to different addresses, by page tables that
---                         differ; its MSI is presented; others freeze, alone and with peers, are released and are refused
+--                         differ, and one is 17; its MSI is presented; others freeze, alone and with peers, are released and are refused
 --     group-answers       what the group is answered: not only refusals; group-left: what is left to it; outside-left: to PEs 0 and 3
 --     witness             THE CLAIM at these two bridges and lists
 -- Assumes nothing.
@@ -20,11 +20,12 @@ use lib.ListN.{length, replicate, drop, List·getD-append, getD-replicate}
 use lib.Seq.{getD-set-other}
 use borrow.Author.Tests.{leb-true, eqb-true, eqb-false}
 use Rattle.kinds.specs.Answer.{refuse}
+use Rattle.kinds.specs.Number.{noWord}
 use Rattle.kinds.specs.Tests.{by-cases, clash, and-right}
 use Rattle.kinds.specs.Words.{at}
 use Rattle.kinds.specs.declared.answer.Answer.{Answer}
 use Rattle.kinds.specs.declared.answer.Answer.the-variants.{Pass, Msi, Ones, Refuse, Done}
-use Rattle.kinds.specs.declared.answer.Reason.the-variants.{BadRequest, UnknownRequester, DmaStopped, BadEntry, TableWord, NoWindow}
+use Rattle.kinds.specs.declared.answer.Reason.the-variants.{BadRequest, UnknownRequester, DmaStopped, BadEntry, TableWord, NoWindow, AboveInstalled}
 use Rattle.kinds.specs.declared.number.ByteAddress.{ByteAddress}
 use Rattle.kinds.specs.declared.number.PageNumber.{PageNumber}
 use Rattle.kinds.specs.declared.record.TranslationEntry.{TranslationEntry}
@@ -110,7 +111,7 @@ abbrev none : TranslationEntry
 none = record { base = 0; levels = 0; table = 0; page = 0 }
 
 abbrev bypassed : TranslationEntry
-bypassed = record { base = 1; levels = 2; table = 1; page = 0 }
+bypassed = record { base = 1; levels = 512; table = 1; page = 0 }
 
 abbrev tabled : TranslationEntry
 tabled = record { base = 0; levels = 2; table = 1; page = 1 }
@@ -174,6 +175,7 @@ module _ (w v : Private) (e : length (w .memory) ≡ length (v .memory)) where
   unfolding places tables live memory upper lower
   public = record {
     sizes = refl;
+    installed = refl;
     all-lengths = rw e;
     requesters = refl;
     peers = refl;
@@ -258,27 +260,27 @@ unfoldable pub pass : (address pe words : ℕ) → Answer
 pass a p n = Pass (record { 0 = a }) (pe p) n
 
 list-answers : replies (machine group (first .tables) (first .memory)) (first .live) list ≡
-    Done ∷ pass 0x9010 2 2 ∷ refuse DmaStopped ∷ Done ∷ pass 0x1110ABC 0 1 ∷ pass 0x1000000 1 0 ∷ Msi 0 1 1 ∷ Msi 1 5 6 ∷ refuse UnknownRequester
-    ∷ refuse BadRequest ∷ refuse BadEntry ∷ Refuse TableWord 1 (record { 0 = 0x20 }) ∷ Ones 0xFFFFFFFF ∷ Done ∷ Done ∷ refuse NoWindow ∷ []
+    Done ∷ pass 0x9010 2 2 ∷ refuse DmaStopped ∷ Done ∷ pass 0x1110ABC 0 1 ∷ pass 0x1000000 1 0 ∷ Msi 0 1 1 ∷ Msi 1 5 6 ∷ refuse AboveInstalled
+    ∷ refuse UnknownRequester ∷ refuse BadRequest ∷ refuse BadEntry ∷ Refuse TableWord 1 (record { 0 = 0x20 }) ∷ Ones 0xFFFFFFFF ∷ Done ∷ Done ∷ refuse NoWindow ∷ []
 unfolding opened-bridges pass
 list-answers = refl
 
 other-answers : replies (machine group (second .tables) (second .memory)) (second .live) other ≡
-    pass 0x9010 2 2 ∷ pass 0x1000000 1 0 ∷ refuse DmaStopped ∷ Done ∷ pass 0x2223ABC 0 2 ∷ Msi 1 5 6 ∷ refuse BadRequest ∷ Done
-    ∷ refuse BadRequest ∷ Refuse TableWord 1 (record { 0 = 0x20 }) ∷ Ones 0xFFFFFFFF ∷ Done ∷ Done ∷ Done ∷ Done ∷ []
+    pass 0x9010 2 2 ∷ pass 0x1000000 1 0 ∷ refuse DmaStopped ∷ Done ∷ pass 0x2223ABC 0 2 ∷ Refuse AboveInstalled 2 noWord ∷ Msi 1 5 6 ∷ refuse AboveInstalled
+    ∷ refuse BadRequest ∷ Done ∷ refuse BadRequest ∷ Refuse TableWord 1 (record { 0 = 0x20 }) ∷ Ones 0xFFFFFFFF ∷ Done ∷ Done ∷ Done ∷ Done ∷ []
 unfolding opened-bridges pass
 other-answers = refl
 
 -- what the group is answered, in both
 group-answers : answers group first list ≡
-    pass 0x9010 2 2 ∷ pass 0x1000000 1 0 ∷ Msi 1 5 6 ∷ refuse BadRequest ∷ Refuse TableWord 1 (record { 0 = 0x20 }) ∷ Ones 0xFFFFFFFF ∷ Done ∷ Done ∷ []
+    pass 0x9010 2 2 ∷ pass 0x1000000 1 0 ∷ Msi 1 5 6 ∷ refuse AboveInstalled ∷ refuse BadRequest ∷ Refuse TableWord 1 (record { 0 = 0x20 }) ∷ Ones 0xFFFFFFFF ∷ Done ∷ Done ∷ []
 unfolding opened-bridges pass
 group-answers = refl
 
 -- and what is left to it: the words of PEs 1 and 2 in the state, and their interrupts
 group-left : map (at (left first list .state)) (places (stopWord (pe 1)) (2 * stateWords))
     ++ map (at (left first list .interrupts)) (places interruptWords (2 * interruptWords)) ≡
-    row 4 0 0 0 ++ row 6 8 0x800000 0x20 ++ (1 ∷ 5 ∷ 6 ∷ 2 ∷ 2 ∷ 7 ∷ 8 ∷ 0 ∷ [])
+    row 7 17 0x180000000 0 ++ row 6 8 0x800000 0x20 ++ (1 ∷ 5 ∷ 6 ∷ 2 ∷ 2 ∷ 7 ∷ 8 ∷ 0 ∷ [])
 unfolding opened-bridges
 group-left = refl
 

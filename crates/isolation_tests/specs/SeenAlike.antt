@@ -1,7 +1,7 @@
 -- Two bridges that agree in the words that are public or the group's.
 --     tableOf a n         table n of bridge a, in the order of 01's list
 --     seenOf n i x        what counts of word i, of value x, of table n: of a stop word the lowest two bits, of another word all
---     SeenAlike g t a b   sizes and lengths are equal, and so is what counts of every word that is seen in the first bridge, t being the marks of its
+--     SeenAlike g t a b   sizes, the installed size and lengths are equal, and so is what counts of every word that is seen in the first bridge, t being the marks of its
 --                         memory
 -- Assumes nothing.
 use mathlib.Core.Path.{_≡_}
@@ -30,5 +30,6 @@ seenOf n i x = cond (eqb n 7) (seenWord i x) x
 
 pub record SeenAlike (g t : List ℕ) (a b : Bridge) : Type 0 where
   pub sizes : a .tables .sizes ≡ b .tables .sizes
+  pub installed : a .tables .installed ≡ b .tables .installed
   pub all-lengths : bridgeLengths a ≡ bridgeLengths b
   pub words : (n i : ℕ) → seen g (a .live .interrupts) t n i ≡ true → seenOf n i (at (tableOf a n) i) ≡ seenOf n i (at (tableOf b n) i)

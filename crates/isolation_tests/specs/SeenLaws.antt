@@ -71,6 +71,7 @@ module _ (g t : List ℕ) (a b : Bridge) (s : SeenAlike g t a b) where
   unfolding seen
   public-same = record {
     sizes = s .sizes;
+    installed = s .installed;
     all-lengths = s .all-lengths;
     requesters = ext-getD 0 _ _ (same-length (λ x. x .requesters)) (λ i h. s .words 0 i refl);
     peers = ext-getD 0 _ _ (same-length (λ x. x .peers)) (λ i h. s .words 3 i refl);

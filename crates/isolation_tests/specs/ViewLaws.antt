@@ -100,6 +100,7 @@ module _ (g t : List ℕ) (a b : Bridge) (v : View (group g) a b) where
     pub alike : Exact g (a .tables .sizes .pes) (a .tables .entries) (a .memory) t → SeenAlike g t a b
     alike marks = record {
       sizes = v .public .sizes;
+      installed = v .public .installed;
       all-lengths = v .public .all-lengths;
       words = word-seen marks;
     }

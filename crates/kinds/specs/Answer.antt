@@ -12,7 +12,7 @@ use Rattle.kinds.specs.declared.answer.Answer.{Answer}
 use Rattle.kinds.specs.declared.answer.Answer.the-variants.{Pass, Msi, Held, Ones, Drop, Refuse, Done}
 use Rattle.kinds.specs.declared.answer.Numbers.{Numbers}
 use Rattle.kinds.specs.declared.answer.Reason.{Reason}
-use Rattle.kinds.specs.declared.answer.Reason.the-variants.{TableLength, BadRequest, UnknownRequester, DmaStopped, AddressClass, BadEntry, OutsideWindow, TableWord, MsiRefused, NoWindow, MmioStopped, ErrorMessage, FrozenAsPeer, BadFirmware, OutsideMemory}
+use Rattle.kinds.specs.declared.answer.Reason.the-variants.{TableLength, BadRequest, UnknownRequester, DmaStopped, AddressClass, BadEntry, OutsideWindow, TableWord, MsiRefused, NoWindow, MmioStopped, ErrorMessage, FrozenAsPeer, BadFirmware, OutsideMemory, AboveInstalled}
 
 abbrev pub reasonNumber : Reason → ℕ
 reasonNumber TableLength = 1
@@ -30,6 +30,7 @@ reasonNumber ErrorMessage = 12
 reasonNumber FrozenAsPeer = 13
 reasonNumber BadFirmware = 14
 reasonNumber OutsideMemory = 15
+reasonNumber AboveInstalled = 17
 
 -- an answer that names no PE, server, priority or table word
 abbrev pub plain : (name reason value words : ℕ) → Numbers

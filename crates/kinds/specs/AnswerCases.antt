@@ -9,7 +9,7 @@ use Prim.Native.Nat.{ℕ}
 use Rattle.kinds.specs.declared.answer.Answer.{Answer}
 use Rattle.kinds.specs.declared.answer.Answer.the-variants.{Pass, Msi, Held, Ones, Drop, Refuse, Done}
 use Rattle.kinds.specs.declared.answer.Numbers.{Numbers}
-use Rattle.kinds.specs.declared.answer.Reason.the-variants.{TableLength, BadRequest, UnknownRequester, DmaStopped, AddressClass, BadEntry, OutsideWindow, TableWord, MsiRefused, NoWindow, MmioStopped, ErrorMessage, FrozenAsPeer, BadFirmware, OutsideMemory}
+use Rattle.kinds.specs.declared.answer.Reason.the-variants.{TableLength, BadRequest, UnknownRequester, DmaStopped, AddressClass, BadEntry, OutsideWindow, TableWord, MsiRefused, NoWindow, MmioStopped, ErrorMessage, FrozenAsPeer, BadFirmware, OutsideMemory, AboveInstalled}
 use Rattle.kinds.specs.Answer.{numbered, refuse}
 
 pub record NumberCase : Type 0 where
@@ -42,6 +42,7 @@ numberCases =
     ∷ has (refuse FrozenAsPeer) 5 13 0 0 0 0 0 0
     ∷ has (refuse BadFirmware) 5 14 0 0 0 0 0 0
     ∷ has (Refuse OutsideMemory 1 (record { 0 = 0x6028 })) 5 15 0 1 0 0 0 0x6028
+    ∷ has (Refuse AboveInstalled 3 (record { 0 = 0 })) 5 17 0 3 0 0 0 0
     ∷ []
 
 pub numbers-hold : map (λ c. numbered (c .answer)) numberCases ≡ map (λ c. c .numbers) numberCases

@@ -5,8 +5,9 @@
 --     wordBytes           the bytes of a word of memory
 --     wordAddress k       the byte address of word k of memory
 --     noWord              the address that stands where no word of memory is named
+--     lastByte a n        the address of the last of n bytes from a
 -- Assumes nothing.
-use Prim.Native.Nat.{ℕ, _+_, _*_, _/_, _%_, _^_}
+use Prim.Native.Nat.{ℕ, _+_, _-_, _*_, _/_, _%_, _^_}
 use Rattle.kinds.specs.declared.number.ByteAddress.{ByteAddress}
 use Rattle.kinds.specs.declared.number.PageNumber.{PageNumber}
 use Rattle.kinds.specs.declared.number.PageSize.{PageSize}
@@ -32,3 +33,6 @@ wordAddress k = record { 0 = k * wordBytes }
 
 abbrev pub noWord : ByteAddress
 noWord = record { 0 = 0 }
+
+abbrev pub lastByte : ByteAddress → (length : ℕ) → ByteAddress
+lastByte a n = record { 0 = a .0 + (n - 1) }

@@ -2,6 +2,7 @@
 use crate::number::ByteAddress;
 use crate::number::PeNumber;
 ghost use mathlib.Core.Path.{_≡_};
+ghost use Prim.Native.Nat.{_+_, _/_, _≤_};
 ghost use Rattle.kinds.specs.Answer.{reasonNumber, numbered};
 
 // Why a request is refused or a PE is frozen; `reason_number` gives the number of each.
@@ -21,6 +22,7 @@ pub enum Reason {
     FrozenAsPeer,
     BadFirmware,
     OutsideMemory,
+    AboveInstalled,
 }
 
 // `Ones` and `Drop` are the load and the store of an MMIO stopped PE. A refusal has the count of table words read, and the address of the table word
@@ -63,8 +65,9 @@ pub struct Numbers {
     pub word: u64,
 }
 
-pub fn reason_number(reason: Reason) -> u64
-    ensures { λ r. ⌜ r ≡ reasonNumber reason ⌝ }
+// The reasons in the order of their numbers, counted from 1. No reason has number 16, so from there on a number is one more.
+fn reason_place(reason: Reason) -> u64
+    ensures { λ r. ⌜ (r ≤ 16) × (r + r / 16 ≡ reasonNumber reason) ⌝ }
 {
     match reason {
         Reason::TableLength => 1,
@@ -82,7 +85,15 @@ pub fn reason_number(reason: Reason) -> u64
         Reason::FrozenAsPeer => 13,
         Reason::BadFirmware => 14,
         Reason::OutsideMemory => 15,
+        Reason::AboveInstalled => 16,
     }
+}
+
+pub fn reason_number(reason: Reason) -> u64
+    ensures { λ r. ⌜ r ≡ reasonNumber reason ⌝ }
+{
+    let place = reason_place(reason);
+    place + place / 16
 }
 
 pub fn in_numbers(answer: Answer) -> Numbers

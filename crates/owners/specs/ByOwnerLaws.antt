@@ -20,14 +20,14 @@ use Rattle.profile.specs.Step.{ask, asked}
 use Rattle.profile.specs.Tables.{Live}
 use Rattle.owners.specs.ByOwner.{byOwner}
 
-module _ (z : Sizes) (q e w g : List ℕ) (s : Live) where
-  pub asked-by : (y : Request) (o : Owner) → asked z q e w g s y o ≡ byOwner (λ p. ask z q e w g s p y) o
+module _ (z : Sizes) (b : ℕ) (q e w g : List ℕ) (s : Live) where
+  pub asked-by : (y : Request) (o : Owner) → asked z b q e w g s y o ≡ byOwner (λ p. ask z b q e w g s p y) o
   unfolding asked byOwner
   asked-by y (Of p) = refl
   asked-by y (Nobody r) = refl
 
-  pub asked-case : {y x : Request} {r : Check} → y ≡ x → r ≡ shown (byOwner (λ p. ask z q e w g s p x) (ownerIn z q w g (s .interrupts) x))
-      → r ≡ shown (asked z q e w g s y (ownerIn z q w g (s .interrupts) y))
+  pub asked-case : {y x : Request} {r : Check} → y ≡ x → r ≡ shown (byOwner (λ p. ask z b q e w g s p x) (ownerIn z q w g (s .interrupts) x))
+      → r ≡ shown (asked z b q e w g s y (ownerIn z q w g (s .interrupts) y))
   asked-case {x = x} i h = rw i (h ∙ ap shown (sym (asked-by x (ownerIn z q w g (s .interrupts) x))))
 
 module _ (k : PeNumber → Checked) (o : Owner) {i : Owner} (found : i ≡ o) where

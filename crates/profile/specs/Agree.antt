@@ -7,7 +7,7 @@
 --     seenWord i x        what counts of word i, of value x, of the state: of a stop word the lowest two bits, of another word all
 --     interruptPe s i     the PE that interrupt i belongs to
 --     Same G n s t        state and interrupts: lengths, the group's words, the PE word of each of n interrupts, the interrupt records of the group
---     Alike G f g         the fixed tables: sizes, requesters, peers, windows, segments, the length of the entries, the entries of the group
+--     Alike G f g         the fixed tables: sizes, the installed size, requesters, peers, windows, segments, the length of the entries, the entries of the group
 --     Reads G f m k       memory word k is read by a walk of a member, a PE below N, for some address of the DMA class, whatever the stop bits are
 --     Held G f m n        memories m and n: their lengths, and every word that a walk of a member reads in the first
 -- Assumes nothing.
@@ -60,6 +60,7 @@ pub record Same (G : PeNumber → Bool) (n : ℕ) (s t : Live) : Type 0 where
 
 pub record Alike (G : PeNumber → Bool) (f g : Tables) : Type 0 where
   pub sizes : f .sizes ≡ g .sizes
+  pub installed : f .installed ≡ g .installed
   pub requesters : f .requesters ≡ g .requesters
   pub peers : f .peers ≡ g .peers
   pub windows : f .windows ≡ g .windows

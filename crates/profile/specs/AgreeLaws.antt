@@ -77,6 +77,7 @@ module _ {G : PeNumber → Bool} {n : ℕ} where
 pub alike-refl : {G : PeNumber → Bool} (f : Tables) → Alike G f f
 alike-refl f = record {
   sizes = refl;
+  installed = refl;
   requesters = refl;
   peers = refl;
   windows = refl;

@@ -57,7 +57,7 @@ use Rattle.profile.specs.Walk.{allows, landed, walkedPage, byPages}
 use Rattle.profile.specs.Msi.{holding, interruptIn, interrupt, ranged, presents, announced, delivered, msi}
 use Rattle.profile.specs.Firmware.{onGood, ends, prioritized}
 use Rattle.profile.specs.Windows.{route, onesOf}
-use Rattle.profile.specs.Step.{formed, outcomeOf, byEntry, served, dmaAsked, accessed, ask, asked, checked, finish, act, actBy, decided, answered, after}
+use Rattle.profile.specs.Step.{formed, installedTo, lastTest, outcomeOf, reached, byEntry, served, dmaAsked, accessed, ask, asked, checked, finish, act, actBy, decided, answered, after}
 use Rattle.profile.specs.Agree.{peOf}
 use Rattle.profile.specs.ActLaws.{takes, act-others}
 use Rattle.profile.specs.Owner.{ofRequester, ofInterrupt, ofHit, ownerIn, owner}
@@ -125,6 +125,14 @@ unfolding outcomeOf told shown worded
 outcomeOf-shown p a (To x) n h = refl
 outcomeOf-shown p a (Fault r w) n h = rw (h, eq-eqb (reasonNumber r) (reasonNumber r) refl, eq-eqb (w .0) (w .0) refl)
 
+lastTest-shown : (i n : ℕ) (t : Translated) → translatedShown t ≡ true → translatedShown (lastTest i n t) ≡ true
+unfolding lastTest told shown worded
+lastTest-shown i n (To x) h = either translatedShown (installedTo i x n) refl refl
+lastTest-shown i n (Fault r w) h = h
+
+reached-shown : (i : ℕ) (p : PeNumber) (q : DmaRequest) (t : Translated) (n : ℕ) → translatedShown t ≡ true → outcomeShown (reached i p q t n) ≡ true
+reached-shown i p q t n h = outcomeOf-shown p (q .address) (lastTest i (q .length) t) n (lastTest-shown i (q .length) t h)
+
 announced-shown : (i v p b : ℕ) → told (announced i v p b) ≡ true
 unfolding announced told shown worded
 announced-shown i v p b = either told (presents p b) refl refl
@@ -159,25 +167,25 @@ unfolding accessed told shown worded
 accessed-shown (At n c) p w x h = either told (mmioStopped w) h refl
 accessed-shown Miss p w x h = h
 
-byEntry-shown : (e : TranslationEntry) (p : PeNumber) (q : DmaRequest) → checkedShown (byEntry e p q) ≡ true
+byEntry-shown : (i : ℕ) (e : TranslationEntry) (p : PeNumber) (q : DmaRequest) → checkedShown (byEntry i e p q) ≡ true
 unfolding byEntry
-byEntry-shown e p q =
+byEntry-shown i e p q =
     either checkedShown (walks e (offset (q .address))) refl
-    (outcomeOf-shown p (q .address) (unwalked e (offset (q .address))) 0 (unwalked-shown e (offset (q .address))))
+    (reached-shown i p q (unwalked e (offset (q .address))) 0 (unwalked-shown e (offset (q .address))))
 
-served-shown : (c : AddressClass) (k : ℕ) (e l : List ℕ) (p : PeNumber) (q : DmaRequest) → checkedShown (served c k e l p q) ≡ true
+served-shown : (c : AddressClass) (k i : ℕ) (e l : List ℕ) (p : PeNumber) (q : DmaRequest) → checkedShown (served c k i e l p q) ≡ true
 unfolding served told shown worded
-served-shown class.Dma k e l p q = byEntry-shown (entryIn e p (half (q .address))) p q
-served-shown class.Msi32 k e l p q = msi-shown k l p (q .address) _ _
-served-shown class.Msi64 k e l p q = msi-shown k l p (q .address) _ _
-served-shown class.Unserved k e l p q = refl
+served-shown class.Dma k i e l p q = byEntry-shown i (entryIn e p (half (q .address))) p q
+served-shown class.Msi32 k i e l p q = msi-shown k l p (q .address) _ _
+served-shown class.Msi64 k i e l p q = msi-shown k l p (q .address) _ _
+served-shown class.Unserved k i e l p q = refl
 
-finish-shown : (m : List ℕ) (x : Checked) → checkedShown x ≡ true → outcomeShown (finish m x) ≡ true
+finish-shown : (i : ℕ) (m : List ℕ) (x : Checked) → checkedShown x ≡ true → outcomeShown (finish i m x) ≡ true
 unfolding finish
-finish-shown m (Kept a) h = h
-finish-shown m (Ready p o) h = h
-finish-shown m (Walk p e q) h =
-    outcomeOf-shown p (q .address) (byPages m e (q .direction) (offset (q .address)) .result) _ (pages-shown m e (q .direction) (offset (q .address)))
+finish-shown i m (Kept a) h = h
+finish-shown i m (Ready p o) h = h
+finish-shown i m (Walk p e q) h =
+    reached-shown i p q (byPages m e (q .direction) (offset (q .address)) .result) _ (pages-shown m e (q .direction) (offset (q .address)))
 
 -- the refusals that nobody gets
 named-shown : (r : Reason) (n k : ℕ) → told (refuse r) ≡ true → ownerShown (named r n k) ≡ true
@@ -208,11 +216,11 @@ owner-shown z r w g l (End i) = interrupt-shown (z .pes) (z .interrupts) l _
 owner-shown z r w g l (Priority i n) = interrupt-shown (z .pes) (z .interrupts) l _
 owner-shown z r w g l Unnamed = refl
 
-module _ (z : Sizes) (requesters entries windows segments : List ℕ) (s : Live) where
-  ask-shown : (p : PeNumber) (q : Request) → checkedShown (ask z requesters entries windows segments s p q) ≡ true
+module _ (z : Sizes) (installed : ℕ) (requesters entries windows segments : List ℕ) (s : Live) where
+  ask-shown : (p : PeNumber) (q : Request) → checkedShown (ask z installed requesters entries windows segments s p q) ≡ true
   unfolding ask dmaAsked told shown worded
   ask-shown p (Dma q) =
-      either checkedShown (dmaStopped (at (s .state) (stopWord p))) refl (served-shown (classOf (q .address)) (z .interrupts) entries (s .interrupts) p q)
+      either checkedShown (dmaStopped (at (s .state) (stopWord p))) refl (served-shown (classOf (q .address)) (z .interrupts) installed entries (s .interrupts) p q)
   ask-shown p (Load a w) = accessed-shown (route windows segments a) p (at (s .state) (stopWord p)) (Ones (onesOf w)) refl
   ask-shown p (Store a w) = accessed-shown (route windows segments a) p (at (s .state) (stopWord p)) Drop refl
   ask-shown p (Error r) = refl
@@ -221,12 +229,12 @@ module _ (z : Sizes) (requesters entries windows segments : List ℕ) (s : Live)
   ask-shown p (Priority i n) = onGood-shown (interrupt s i) (prioritized i n (interrupt s i)) (prioritized-shown i n (interrupt s i))
   ask-shown p Unnamed = refl
 
-  asked-shown : (q : Request) (o : Owner) → ownerShown o ≡ true → checkedShown (asked z requesters entries windows segments s q o) ≡ true
+  asked-shown : (q : Request) (o : Owner) → ownerShown o ≡ true → checkedShown (asked z installed requesters entries windows segments s q o) ≡ true
   unfolding asked
   asked-shown q (Of p) h = ask-shown p q
   asked-shown q (Nobody r) h = h
 
-  checked-shown : (ok : Bool) (q : Request) → checkedShown (checked z requesters entries windows segments s ok q) ≡ true
+  checked-shown : (ok : Bool) (q : Request) → checkedShown (checked z installed requesters entries windows segments s ok q) ≡ true
   unfolding checked told shown worded
   checked-shown ok q =
       either checkedShown ok
@@ -235,7 +243,8 @@ module _ (z : Sizes) (requesters entries windows segments : List ℕ) (s : Live)
 module _ (f : Tables) (m : List ℕ) (s : Live) (q : Request) where
   decided-shown : outcomeShown (decided f m s q) ≡ true
   decided-shown =
-      finish-shown m _ (checked-shown (f .sizes) (f .requesters) (f .entries) (f .windows) (f .segments) s (sized (f .sizes) (lengths f (length m) s)) q)
+      finish-shown (f .installed) m _
+      (checked-shown (f .sizes) (f .installed) (f .requesters) (f .entries) (f .windows) (f .segments) s (sized (f .sizes) (lengths f (length m) s)) q)
 
   answered-told : told (answered f m s q) ≡ true
   answered-told = and-right (fits (answered f m s q) (decided f m s q .effect)) (told (answered f m s q)) decided-shown
@@ -286,7 +295,7 @@ module _ (f : Tables) (m : List ℕ) (s : Live) (q : Request) (bad : sized (f .s
   unsized-decided : decided f m s q ≡ record { answer = refuse TableLength; effect = Keep }
   unfolding checked finish
   unsized-decided =
-      ap (λ (b : Bool). finish m (checked (f .sizes) (f .requesters) (f .entries) (f .windows) (f .segments) s b q)) bad
+      ap (λ (b : Bool). finish (f .installed) m (checked (f .sizes) (f .installed) (f .requesters) (f .entries) (f .windows) (f .segments) s b q)) bad
 
   pub unsized-answered : answered f m s q ≡ refuse TableLength
   unsized-answered = ap (λ (o : Outcome). o .answer) unsized-decided

@@ -2,6 +2,7 @@
 --     Case                the tables, memory and what is written, the request, its answer, and all words that may change, after it
 --     Shown               an answer, and all words that may change, after it
 --     given, stated       what the definition gives of a row, and what the row says
+--     gib4                4 GiB, the installed size of every bridge here; largest: the largest size there is; installing i f: the bridge f with size i
 --     bridge e k v w g    4 PEs, 8 interrupts and 8 requesters, of which 1, 5 and 6 are PEs 1, 2 and 3 and the others nobody's; PE 2's two records
 --                         are e and k; v, w and g are peers, windows and segments
 --     entered, peered, windowed   the bridge with these records, peers, or windows and segments, and nothing else
@@ -57,14 +58,32 @@ given c = record { answer = answered (c .tables) (c .memory) (c .live) (c .reque
 unfoldable pub stated : Case → Shown
 stated c = record { answer = c .answer; left = c .left }
 
+abbrev pub gib4 : ℕ
+gib4 = 0x100000000
+
+abbrev pub largest : ℕ
+largest = 0xFFFFFFFFFFFFFFFF
+
 abbrev pub bridge : (e k peers windows segments : List ℕ) → Tables
 bridge e k v w g = record {
   sizes = record { pes = 4; interrupts = 8; requesters = 8 };
+  installed = gib4;
   requesters = 9 ∷ 1 ∷ 9 ∷ 9 ∷ 9 ∷ 2 ∷ 3 ∷ 4 ∷ [];
   entries = replicate (2 * entryWords) 0 ++ (e ++ (k ++ replicate entryWords 0));
   peers = v;
   windows = w;
   segments = g;
+}
+
+abbrev pub installing : (installed : ℕ) → Tables → Tables
+installing i f = record {
+  sizes = f .sizes;
+  installed = i;
+  requesters = f .requesters;
+  entries = f .entries;
+  peers = f .peers;
+  windows = f .windows;
+  segments = f .segments;
 }
 
 abbrev pub none : List ℕ
@@ -88,6 +107,7 @@ short = windowed (replicate (windowWords - 1) 0) (replicate segmentCount 9)
 abbrev pub wide : (pes : ℕ) → (peers windows segments : List ℕ) → Tables
 wide n v w g = record {
   sizes = record { pes = n; interrupts = 0; requesters = 2 };
+  installed = gib4;
   requesters = 0 ∷ (n - 1) ∷ [];
   entries = replicate (n * entryWords) 0;
   peers = v;

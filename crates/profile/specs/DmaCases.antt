@@ -11,7 +11,7 @@ use Prim.Native.Nat.{ℕ, _+_, _-_, _*_, _^_}
 use Rattle.kinds.specs.declared.answer.Reason.{Reason}
 use Rattle.kinds.specs.declared.answer.Reason.the-variants.{TableLength, BadRequest, UnknownRequester, DmaStopped, AddressClass, BadEntry, OutsideWindow, MsiRefused, OutsideMemory}
 use Rattle.profile.specs.Tables.{Tables}
-use Rattle.profile.specs.Case.{Case, entered, none, plain, short, idle, endpoint, stateRow, calm, states, stopped, empty, words, read, write, pass, keeps, refuses, freezesAt, freezes}
+use Rattle.profile.specs.Case.{Case, largest, installing, entered, none, plain, short, idle, endpoint, stateRow, calm, states, stopped, empty, words, read, write, pass, keeps, refuses, freezesAt, freezes}
 
 -- PE 2's first record, with no second one; its second, with no first one
 abbrev pub first : (base levels table page : ℕ) → Tables
@@ -143,9 +143,9 @@ goodEntries =
     ∷ passes (first 1 2 1 0) memory 0x1FFFFFF 0x1FFFFFF 0
     ∷ passes (first 7 9 31 0) memory 0x7000000 0x7000000 0
     ∷ passes (first 0 (2 ^ 35) 1 0) memory 0 0 0
-    ∷ passes (first 0 (2 ^ 35) 1 0) memory 0x07FFFFFFFFFFFFFF 0x07FFFFFFFFFFFFFF 0
-    ∷ passes (first (2 ^ 35 - 1) (2 ^ 35) 1 0) memory 0x07FFFFFFFF000000 0x07FFFFFFFF000000 0
-    ∷ passes (second 0 (2 ^ 35) 1 0) memory 0x0FFFFFFFFFFFFFFF 0x07FFFFFFFFFFFFFF 0
+    ∷ passes (installing largest (first 0 (2 ^ 35) 1 0)) memory 0x07FFFFFFFFFFFFFF 0x07FFFFFFFFFFFFFF 0
+    ∷ passes (installing largest (first (2 ^ 35 - 1) (2 ^ 35) 1 0)) memory 0x07FFFFFFFF000000 0x07FFFFFFFF000000 0
+    ∷ passes (installing largest (second 0 (2 ^ 35) 1 0)) memory 0x0FFFFFFFFFFFFFFF 0x07FFFFFFFFFFFFFF 0
     -- the 32-bit MSI window lies in the first record only
     ∷ fails (first 0 (2 ^ 35) 1 0) memory 0xFFFF0000 MsiRefused 9
     ∷ passes (second 0 (2 ^ 35) 1 0) memory 0x08000000FFFF0000 0xFFFF0000 0

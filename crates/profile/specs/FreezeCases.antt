@@ -1,7 +1,7 @@
 -- Error messages, freezing alone and with peers, and release by firmware.
 --     messages            1 before 3, and 3; a message of a PE that is stopped is obeyed
 --     peerCases           which PEs are peers, and what they get
---     refusals            each of the six reasons that freeze, on tables where the PE lists all: no other PE gets a stop bit or a record, and a peer is
+--     refusals            each of the seven reasons that freeze, on tables where the PE lists all: no other PE gets a stop bit or a record, and a peer is
 --                         served as before. An error message there stops all
 --     records             what stands in a state already: error records, senseless words, upper bits of stop words
 --     wideCases           256 PEs: the words and bits of a peer vector; no interrupt at all
@@ -24,7 +24,7 @@ use Rattle.kinds.specs.Number.{noWord}
 use Rattle.kinds.specs.declared.answer.Answer.{Answer}
 use Rattle.kinds.specs.declared.answer.Answer.the-variants.{Done}
 use Rattle.kinds.specs.declared.answer.Reason.{Reason}
-use Rattle.kinds.specs.declared.answer.Reason.the-variants.{TableLength, UnknownRequester, DmaStopped, AddressClass, BadEntry, OutsideWindow, TableWord, MsiRefused, ErrorMessage, BadFirmware, OutsideMemory}
+use Rattle.kinds.specs.declared.answer.Reason.the-variants.{TableLength, UnknownRequester, DmaStopped, AddressClass, BadEntry, OutsideWindow, TableWord, MsiRefused, ErrorMessage, BadFirmware, OutsideMemory, AboveInstalled}
 use Rattle.kinds.specs.declared.number.PeNumber.{PeNumber}
 use Rattle.kinds.specs.declared.outcome.Effect.{Effect}
 use Rattle.kinds.specs.declared.outcome.Effect.the-variants.{Freeze}
@@ -37,7 +37,7 @@ use Rattle.profile.specs.Opened.{opened}
 use Rattle.profile.specs.Tables.{Tables, Live, entryWords, peerWords, windowWords, segmentCount}
 use Rattle.profile.specs.Step.{act}
 use Rattle.profile.specs.AnswersLaws.{worded, fits}
-use Rattle.profile.specs.Case.{Case, none, peered, plain, short, wide, wordRow, stateRow, calm, endpoints, quiet, idle, endpointAt, endpoint, states, stopped, empty, read, write, pass, refuseAt, row, keeps, refuses}
+use Rattle.profile.specs.Case.{Case, gib4, none, peered, plain, short, wide, wordRow, stateRow, calm, endpoints, quiet, idle, endpointAt, endpoint, states, stopped, empty, words, read, write, pass, refuseAt, row, keeps, refuses}
 
 -- PE 2's peer vector, the others' empty
 abbrev pub vector : (a b c d : ℕ) → Tables
@@ -80,16 +80,21 @@ peerCases =
     (states calm (stateRow 3 13 2) (stateRow 3 12 5) calm)
     ∷ []
 
--- PE 2, whose vector lists all four PEs, has a table whose words from 40 on are outside memory, and no second record; PE 1 is in bypass
+-- PE 2, whose vector lists all four PEs, has a table whose word 4 leads above the installed size and whose words from 40 on are outside memory, and no
+-- second record; PE 1 is in bypass
 abbrev pub listing : Tables
 listing = record {
   sizes = alone .sizes;
+  installed = alone .installed;
   requesters = alone .requesters;
   entries = replicate entryWords 0 ++ ((1 ∷ 2 ∷ 1 ∷ 0 ∷ none) ++ ((0x5000 ∷ 1 ∷ 1 ∷ 1 ∷ none) ++ replicate entryWords 0));
   peers = vector 15 0 0 0 .peers;
   windows = alone .windows;
   segments = alone .segments;
 }
+
+abbrev pub led : List ℕ
+led = words 0x5020 (gib4 + 3) empty
 
 -- PEs 0 and 1 have an empty record, PE 3 has one that firmware did not clear; none of them is stopped
 abbrev pub running : (failing : List ℕ) → Live
@@ -98,19 +103,20 @@ running r = states calm calm r (stateRow 4 8 0x1000)
 -- a refusal after n words, by the word at w, freezes PE 2 alone, and PE 1 is served after it as before
 abbrev pub stopsOne : (address : ℕ) → Reason → (words number word : ℕ) → List Case
 stopsOne a r n k w =
-    row listing empty (running calm) (read 5 a 4) (refuseAt r n w) (running (wordRow 3 k a w))
-    ∷ keeps listing empty (running (wordRow 3 k a w)) (read 1 0x1000000 4) (pass 0x1000000 1 0)
+    row listing led (running calm) (read 5 a 4) (refuseAt r n w) (running (wordRow 3 k a w))
+    ∷ keeps listing led (running (wordRow 3 k a w)) (read 1 0x1000000 4) (pass 0x1000000 1 0)
     ∷ []
 
 unfoldable pub refusals : List Case
 refusals =
-    -- 5, 6, 7, 8, 9 and 15
+    -- 5, 6, 7, 8, 9, 15 and 17
     stopsOne 0x2000000000000000 AddressClass 0 5 0
     ++ stopsOne 0x800000000003ABC BadEntry 0 6 0
     ++ stopsOne 0x200000 OutsideWindow 0 7 0
     ++ stopsOne 0x3ABC TableWord 1 8 0x5018
     ++ stopsOne 0xFFFF0070 MsiRefused 0 9 0
     ++ stopsOne 0x28000 OutsideMemory 0 15 0x5140
+    ++ stopsOne 0x4000 AboveInstalled 1 17 0
     -- an error message on the same tables stops every PE, and PE 1 is refused then
     ++ (row listing empty (running calm) (Error 5) Done
     (states (stateRow 3 13 2) (stateRow 3 13 2) (stateRow 3 12 5) (stateRow 7 8 0x1000))
@@ -264,7 +270,7 @@ misfits =
 
 -- answers that name a table word under another reason, or under none
 unfoldable pub miswords : List Answer
-miswords = map (λ r. refuseAt r 0 0x2018) (TableLength ∷ UnknownRequester ∷ AddressClass ∷ BadEntry ∷ OutsideWindow ∷ MsiRefused ∷ BadFirmware ∷ [])
+miswords = map (λ r. refuseAt r 0 0x2018) (TableLength ∷ UnknownRequester ∷ AddressClass ∷ BadEntry ∷ OutsideWindow ∷ MsiRefused ∷ BadFirmware ∷ AboveInstalled ∷ [])
 
 pub miswords-hold : map worded miswords ≡ map (λ a. false) miswords
 unfolding worded miswords

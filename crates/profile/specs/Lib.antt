@@ -11,6 +11,8 @@ pub mod Firmware
 pub mod FirmwareLaws
 pub mod Freeze
 pub mod FreezeCases
+pub mod InstalledCases
+pub mod InstalledLaws
 pub mod Limits
 pub mod Msi
 pub mod MsiCases

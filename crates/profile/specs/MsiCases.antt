@@ -215,6 +215,7 @@ msiCases = arrivals ++ numbers ++ badMsi ++ endings ++ priorities ++ badInterrup
 abbrev pub counted : (m : ℕ) → Tables
 counted m = record {
   sizes = record { pes = 4; interrupts = m; requesters = 8 };
+  installed = plain .installed;
   requesters = plain .requesters;
   entries = plain .entries;
   peers = plain .peers;

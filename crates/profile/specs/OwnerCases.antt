@@ -14,7 +14,7 @@ use Prim.Native.Nat.{ℕ, _+_, _-_, _*_, _^_}
 use lib.ListN.{replicate}
 use Rattle.kinds.specs.declared.answer.Answer.the-variants.{Msi, Ones, Drop, Done}
 use Rattle.kinds.specs.declared.answer.Reason.{Reason}
-use Rattle.kinds.specs.declared.answer.Reason.the-variants.{TableLength, BadRequest, UnknownRequester, DmaStopped, AddressClass, BadEntry, OutsideWindow, TableWord, MsiRefused, NoWindow, BadFirmware, OutsideMemory}
+use Rattle.kinds.specs.declared.answer.Reason.the-variants.{TableLength, BadRequest, UnknownRequester, DmaStopped, AddressClass, BadEntry, OutsideWindow, TableWord, MsiRefused, NoWindow, BadFirmware, OutsideMemory, AboveInstalled}
 use Rattle.kinds.specs.declared.lookup.Owner.{Owner}
 use Rattle.kinds.specs.declared.lookup.Owner.the-variants.{Of, Nobody}
 use Rattle.kinds.specs.declared.request.Part.the-variants.{Mmio, Dma, Record}
@@ -22,7 +22,7 @@ use Rattle.kinds.specs.declared.request.Request.the-variants.{Error, Clear, End
 use Rattle.profile.specs.Opened.{opened}
 use Rattle.profile.specs.Tables.{Tables, Live, interruptWords}
 use Rattle.profile.specs.Owner.{owner}
-use Rattle.profile.specs.Case.{Case, given, stated, plain, short, windowed, calm, endpoints, idle, endpoint, endpointAt, stopped, empty, read, write, load, store, pass, row, keeps, refuses, freezesAt}
+use Rattle.profile.specs.Case.{Case, given, stated, installing, plain, short, windowed, calm, endpoints, idle, endpoint, endpointAt, stopped, empty, read, write, load, store, pass, row, keeps, refuses, freezesAt}
 use Rattle.profile.specs.DmaCases.{memory, fails, passes}
 use Rattle.profile.specs.MsiCases.{irq, noGood}
 use Rattle.profile.specs.AccessCases.{m32I, m64, segments, on}
@@ -39,7 +39,15 @@ nobodys r c = record { case = c; owner = Nobody r }
 
 -- the plain bridge with other requesters
 abbrev pub asking : (requesters : List ℕ) → Tables
-asking l = record { sizes = plain .sizes; requesters = l; entries = plain .entries; peers = plain .peers; windows = plain .windows; segments = plain .segments }
+asking l = record {
+  sizes = plain .sizes;
+  installed = plain .installed;
+  requesters = l;
+  entries = plain .entries;
+  peers = plain .peers;
+  windows = plain .windows;
+  segments = plain .segments;
+}
 
 -- requester 7 is PE 3, which are R - 1 and N - 1; requester 6 has the PE word 65,535
 abbrev pub last : Tables
@@ -60,7 +68,7 @@ dmaOwners =
     ∷ refuses plain idle (read 5 0x3000 4097) BadRequest
     ∷ refuses plain stopped (write 5 0x1000000000000000 (2 ^ 64 - 1) 0) BadRequest
     ∷ refuses plain idle (read 5 0x3FFF 2) BadRequest
-    -- 4, 5, 6, 7, 8, 9 and 15
+    -- 4, 5, 6, 7, 8, 9, 15 and 17
     ∷ refuses plain stopped (read 5 0x3ABC 4) DmaStopped
     ∷ fails plain empty 0x2000000000000000 AddressClass 5
     ∷ fails plain empty 0x0800000000003ABC BadEntry 6
@@ -68,6 +76,7 @@ dmaOwners =
     ∷ freezesAt plain empty (read 5 0x3ABC 4) TableWord 1 8 0x3ABC 0x2018
     ∷ fails plain empty 0xFFFF0070 MsiRefused 9
     ∷ freezesAt plain [] (read 5 0x3ABC 4) OutsideMemory 0 15 0x3ABC 0x2018
+    ∷ freezesAt (installing 0x12345ABF plain) memory (read 5 0x3ABC 4) AboveInstalled 1 17 0x3ABC 0
     -- error messages, also of a stopped PE
     ∷ row plain empty idle (Error 5) Done (endpoint 3 12 5)
     ∷ keeps plain empty (endpointAt 3 8 0x3ABC 0x2018) (Error 5) Done ∷ [])

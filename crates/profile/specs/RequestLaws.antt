@@ -12,7 +12,7 @@
 -- A new kind of request adds a clause to ownerIn-below, ownerIn-reads, ask-agrees, ask-walks and ask-owner; one that has an effect of its own
 -- adds that effect to the laws of `ActLaws`; one that reads a table adds what it reads of it to `Alike`, `Same` or `Held`.
 -- Assumes nothing.
-use mathlib.Core.Path.{_≡_, refl, ap, _∙_}
+use mathlib.Core.Path.{_≡_, refl, ap, ap₂, _∙_}
 use mathlib.Core.Bool.{Bool, true, false, cond, _&&_}
 use mathlib.Core.List.{List}
 use Prim.Native.Nat.{ℕ, _/_, _%_, _<_}
@@ -61,7 +61,7 @@ use Rattle.profile.specs.OwnerLaws.{Below, owner-below, owner-agrees}
 
 -- the request of PE p, on a bridge's tables
 abbrev askOn : Tables → Live → PeNumber → Request → Checked
-askOn f s p q = ask (f .sizes) (f .requesters) (f .entries) (f .windows) (f .segments) s p q
+askOn f s p q = ask (f .sizes) (f .installed) (f .requesters) (f .entries) (f .windows) (f .segments) s p q
 
 module _ {G : PeNumber → Bool} {f g : Tables} (w : Alike G f g) where
   pub vector-agrees : (p : PeNumber) → vector f p ≡ vector g p
@@ -95,9 +95,9 @@ module _ {G : PeNumber → Bool} {f g : Tables} (w : Alike G f g) where
         (λ o. rw o))
 
     served-agrees : (c : classes.AddressClass) (p : PeNumber) → G p ≡ true → (q : DmaRequest)
-        → served c (f .sizes .interrupts) (f .entries) (s .interrupts) p q ≡ served c (g .sizes .interrupts) (g .entries) (t .interrupts) p q
+        → served c (f .sizes .interrupts) (f .installed) (f .entries) (s .interrupts) p q ≡ served c (g .sizes .interrupts) (g .installed) (g .entries) (t .interrupts) p q
     unfolding served
-    served-agrees class.Dma p u q = ap (λ (e : TranslationEntry). byEntry e p q) (half-agrees w p u (q .address))
+    served-agrees class.Dma p u q = rw (← w .installed) (ap (λ (e : TranslationEntry). byEntry (f .installed) e p q) (half-agrees w p u (q .address)))
     served-agrees class.Msi32 p u q = ap (Ready p) (msi-agrees p u (q .address) _ _)
     served-agrees class.Msi64 p u q = ap (Ready p) (msi-agrees p u (q .address) _ _)
     served-agrees class.Unserved p u q = refl
@@ -134,8 +134,8 @@ module _ {G : PeNumber → Bool} {f g : Tables} (w : Alike G f g) where
     ask-agrees Unnamed o p u = refl
 
     asked-agrees : (q : Request) → belongs G f s q ≡ true → (o : Owner) → owned G o ≡ true
-        → asked (f .sizes) (f .requesters) (f .entries) (f .windows) (f .segments) s q o
-        ≡ asked (g .sizes) (g .requesters) (g .entries) (g .windows) (g .segments) t q o
+        → asked (f .sizes) (f .installed) (f .requesters) (f .entries) (f .windows) (f .segments) s q o
+        ≡ asked (g .sizes) (g .installed) (g .requesters) (g .entries) (g .windows) (g .segments) t q o
     unfolding asked
     asked-agrees q b (Of p) u = ask-agrees q b p u
     asked-agrees q b (Nobody x) u = clash u refl
@@ -158,7 +158,7 @@ Walkable f k (Walk p e q) =
     (p ≡ k) × (e ≡ entry f k (half (q .address))) × (classOf (q .address) ≡ class.Dma) × (walks (entry f k (half (q .address))) (offset (q .address)) ≡ true)
 
 served-walks : (c : classes.AddressClass) (f : Tables) (s : Live) (p : PeNumber) (q : DmaRequest) → classOf (q .address) ≡ c
-    → Walkable f p (served c (f .sizes .interrupts) (f .entries) (s .interrupts) p q)
+    → Walkable f p (served c (f .sizes .interrupts) (f .installed) (f .entries) (s .interrupts) p q)
 unfolding served byEntry
 served-walks class.Dma f s p q c =
     by-cases (walks (entry f p (half (q .address))) (offset (q .address))) (λ o. rw o (refl, refl, c, o)) (λ o. rw o tt)
@@ -189,26 +189,27 @@ checked-walks f n s q p h =
 
 module _ {G : PeNumber → Bool} {f g : Tables} (w : Alike G f g) where
   module _ {m n : List ℕ} (h : Held G f m n) where
-    pub finish-agrees : (p : PeNumber) → G p ≡ true → p .0 < f .sizes .pes → (x : Checked) → Walkable f p x → finish m x ≡ finish n x
+    pub finish-agrees : (p : PeNumber) → G p ≡ true → p .0 < f .sizes .pes → (i : ℕ) (x : Checked) → Walkable f p x → finish i m x ≡ finish i n x
     unfolding finish
-    finish-agrees p u b (Kept a) k = refl
-    finish-agrees p u b (Ready k o) i = refl
-    finish-agrees p u b (Walk j e q) k =
+    finish-agrees p u b i (Kept a) k = refl
+    finish-agrees p u b i (Ready j o) k = refl
+    finish-agrees p u b i (Walk j e q) k =
         let a = q .address in
         let x = entry f p (half a) in
         rw (k .0, k .1, pages-is m x (offset a) (k .3) (q .direction), pages-is n x (offset a) (k .3) (q .direction))
-        (ap (arrived p a) (translation-agrees h p u b a (k .2) (q .direction)))
+        (ap (arrived i p q) (translation-agrees h p u b a (k .2) (q .direction)))
 
     module _ {s t : Live} (r : Same G (f .sizes .interrupts) s t) where
       owned-agrees : (q : Request) (o : Owner) → owner f s q ≡ o → owned G o ≡ true → Below (f .sizes .pes) o
-          → finish m (checkedOn f (length n) s q) ≡ finish n (checkedOn f (length n) s q)
-      owned-agrees q (Of p) e u b = finish-agrees p u b (checkedOn f (length n) s q) (checked-walks f (length n) s q p e)
+          → finish (f .installed) m (checkedOn f (length n) s q) ≡ finish (f .installed) n (checkedOn f (length n) s q)
+      owned-agrees q (Of p) e u b = finish-agrees p u b (f .installed) (checkedOn f (length n) s q) (checked-walks f (length n) s q p e)
       owned-agrees q (Nobody x) e u b = clash u refl
 
       pub decided-agrees : (q : Request) → belongs G f s q ≡ true → decided f m s q ≡ decided g n t q
       decided-agrees q b =
           rw (h .memory-length)
-          (owned-agrees q (owner f s q) refl b (owner-below f s q) ∙ ap (finish n) (checked-agrees w r (length n) q b))
+          (owned-agrees q (owner f s q) refl b (owner-below f s q)
+          ∙ ap₂ (λ (i : ℕ) (x : Checked). finish i n x) (w .installed) (checked-agrees w r (length n) q b))
 
       pub answered-agrees : (q : Request) → belongs G f s q ≡ true → answered f m s q ≡ answered g n t q
       answered-agrees q b = ap (λ (o : Outcome). o .answer) (decided-agrees q b)
@@ -241,15 +242,15 @@ Placed o (Kept a) = Unit {0}
 Placed o (Ready p x) = o ≡ Of p
 Placed o (Walk p e q) = o ≡ Of p
 
-module _ (z : Sizes) (requesters entries windows segments : List ℕ) (s : Live) where
-  served-owner : (c : classes.AddressClass) (p : PeNumber) (q : DmaRequest) → Placed (Of p) (served c (z .interrupts) entries (s .interrupts) p q)
+module _ (z : Sizes) (installed : ℕ) (requesters entries windows segments : List ℕ) (s : Live) where
+  served-owner : (c : classes.AddressClass) (p : PeNumber) (q : DmaRequest) → Placed (Of p) (served c (z .interrupts) installed entries (s .interrupts) p q)
   unfolding served byEntry
   served-owner class.Dma p q = by-cases (walks (entryIn entries p (half (q .address))) (offset (q .address))) (λ o. rw o refl) (λ o. rw o refl)
   served-owner class.Msi32 p q = refl
   served-owner class.Msi64 p q = refl
   served-owner class.Unserved p q = refl
 
-  ask-owner : (p : PeNumber) (q : Request) → Placed (Of p) (ask z requesters entries windows segments s p q)
+  ask-owner : (p : PeNumber) (q : Request) → Placed (Of p) (ask z installed requesters entries windows segments s p q)
   unfolding ask dmaAsked
   ask-owner p (Dma q) = by-cases (dmaStopped (at (s .state) (stopWord p))) (λ o. rw o tt) (λ o. rw o (served-owner (classOf (q .address)) p q))
   ask-owner p (Load a w) = tt
@@ -260,13 +261,13 @@ module _ (z : Sizes) (requesters entries windows segments : List ℕ) (s : Live)
   ask-owner p (Priority i n) = refl
   ask-owner p Unnamed = tt
 
-  asked-owner : (q : Request) (o : Owner) → Placed o (asked z requesters entries windows segments s q o)
+  asked-owner : (q : Request) (o : Owner) → Placed o (asked z installed requesters entries windows segments s q o)
   unfolding asked
   asked-owner q (Of p) = ask-owner p q
   asked-owner q (Nobody r) = tt
 
   pub checked-owner : (ok : Bool) (q : Request)
-      → Placed (ownerIn z requesters windows segments (s .interrupts) q) (checked z requesters entries windows segments s ok q)
+      → Placed (ownerIn z requesters windows segments (s .interrupts) q) (checked z installed requesters entries windows segments s ok q)
   unfolding checked
   checked-owner false q = tt
   checked-owner true q = by-cases (formed q) (λ o. rw o (asked-owner q _)) (λ o. rw o tt)

@@ -1,15 +1,19 @@
 -- One request, from its checks to what it leaves: 01, the order of checks of each kind of request.
 --     formed q            not reason 2: it depends on the request alone, and words that name no request are never formed; dmaFormed a n,
 --                         accessFormed a w: of a DMA, of a load or store
+--     installedTo i a n   02, [7]: the last of the n bytes from system address a is below the installed size i
+--     lastTest i n t      THE LAST TEST of a DMA of n bytes: a translated address t from which not all bytes are installed is the fault 17, which no
+--                         table word makes; the one place where the size is asked for
 --     outcomeOf p a t n   the outcome of a DMA of PE p by a translation t with n words read: a pass, or the refusal of a fault, which freezes and
---                         carries the word that failed
---     byEntry e p q       a DMA of PE p by the entry e that its address picks
---     served c k e l p q  a DMA of a PE that is not stopped, by the class c of its address; e are the translation entries, l the interrupts, k is M
---     dmaAsked k e l w p q    a DMA of PE p whose stop word is w
+--                         carries the word that failed; reached i p q t n: after the last test
+--     byEntry i e p q     a DMA of PE p by the entry e that its address picks
+--     served c k i e l p q    a DMA of a PE that is not stopped, by the class c of its address; e are the translation entries, l the interrupts, k is M,
+--                         i the installed size
+--     dmaAsked k i e l w p q  a DMA of PE p whose stop word is w
 --     accessed h p w d    the answer to a load or store of PE p by its window h and its stop word w; d is that of a PE that is MMIO stopped
 --     ask p q             what the request q of PE p comes to, as far as no memory is read; asked q o: by its owner o
 --     checked ok .. q     ALL CHECKS BEFORE THE WALK: reason 1 (not ok), then 2, then the refusal that nobody gets (3, 10 or 14), then the rest
---     finish m x          what is left: the walk, the only reader of memory; arrived p a t: the outcome of a DMA by a translation and its words
+--     finish i m x        what is left: the walk, the only reader of memory; arrived i p q t: the outcome of a DMA by a translation and its words
 --     act n v p e s       effect e at PE p, n being N and v the peers: it writes, and decides nothing; actBy f o e s: at the owner o, and none
 --                         where it is nobody
 --     checkedOn f n s q   the checks on a bridge's tables, n being the length of memory
@@ -20,16 +24,16 @@
 use mathlib.Core.Bool.{Bool, true, false, cond, _&&_, _||_}
 use mathlib.Core.List.{List}
 use Prim.Native.Nat.{ℕ, _+_, _%_}
-use lib.Dec.{leb, eqb}
+use lib.Dec.{leb, ltb, eqb}
 use lib.ListN.{length}
 use Rattle.kinds.specs.Answer.{refuse}
 use Rattle.kinds.specs.Checked.{Checked, Kept, Ready, Walk}
-use Rattle.kinds.specs.Number.{noWord}
+use Rattle.kinds.specs.Number.{noWord, lastByte}
 use Rattle.kinds.specs.Outcome.{kept, passed, failed, done}
 use Rattle.kinds.specs.Words.{at}
 use Rattle.kinds.specs.declared.answer.Answer.{Answer}
 use Rattle.kinds.specs.declared.answer.Answer.the-variants.{Pass, Ones, Drop}
-use Rattle.kinds.specs.declared.answer.Reason.the-variants.{TableLength, BadRequest, DmaStopped, AddressClass, ErrorMessage}
+use Rattle.kinds.specs.declared.answer.Reason.the-variants.{TableLength, BadRequest, DmaStopped, AddressClass, ErrorMessage, AboveInstalled}
 use Rattle.kinds.specs.declared.lookup.Hit.{Hit}
 use Rattle.kinds.specs.declared.lookup.Hit.the-variants.{At, Miss}
 use Rattle.kinds.specs.declared.lookup.Owner.{Owner}
@@ -75,34 +79,43 @@ formed (End i) = true
 formed (Priority i n) = leb n holding
 formed Unnamed = false
 
+unfoldable pub installedTo : (installed : ℕ) → ByteAddress → (length : ℕ) → Bool
+installedTo i a n = ltb (lastByte a n .0) i
+
+unfoldable pub lastTest : (installed length : ℕ) → Translated → Translated
+lastTest i n (To x) = cond (installedTo i x n) (To x) (Fault AboveInstalled noWord)
+lastTest i n (Fault r w) = Fault r w
+
 unfoldable pub outcomeOf : PeNumber → ByteAddress → Translated → (words : ℕ) → Outcome
 outcomeOf p a (To x) n = passed p x n
 outcomeOf p a (Fault r w) n = failed r a n w
 
-unfoldable pub byEntry : TranslationEntry → PeNumber → DmaRequest → Checked
-byEntry e p q =
-    cond (walks e (offset (q .address))) (Walk p e q) (Ready p (outcomeOf p (q .address) (unwalked e (offset (q .address))) 0))
+abbrev pub reached : (installed : ℕ) → PeNumber → DmaRequest → Translated → (words : ℕ) → Outcome
+reached i p q t n = outcomeOf p (q .address) (lastTest i (q .length) t) n
 
-unfoldable pub served : classes.AddressClass → (count : ℕ) → (entries interrupts : List ℕ) → PeNumber → DmaRequest → Checked
-served class.Dma k e l p q = byEntry (entryIn e p (half (q .address))) p q
-served class.Msi32 k e l p q =
+unfoldable pub byEntry : (installed : ℕ) → TranslationEntry → PeNumber → DmaRequest → Checked
+byEntry i e p q = cond (walks e (offset (q .address))) (Walk p e q) (Ready p (reached i p q (unwalked e (offset (q .address))) 0))
+
+unfoldable pub served : classes.AddressClass → (count installed : ℕ) → (entries interrupts : List ℕ) → PeNumber → DmaRequest → Checked
+served class.Dma k i e l p q = byEntry i (entryIn e p (half (q .address))) p q
+served class.Msi32 k i e l p q =
     Ready p (msi k l p (q .address) (number32 (q .address) (q .«data»)) (msiFormed (q .direction) (q .address) (q .length)))
-served class.Msi64 k e l p q =
+served class.Msi64 k i e l p q =
     Ready p (msi k l p (q .address) (number64 (q .address) (q .«data»)) (msiFormed (q .direction) (q .address) (q .length)))
-served class.Unserved k e l p q = Ready p (failed AddressClass (q .address) 0 noWord)
+served class.Unserved k i e l p q = Ready p (failed AddressClass (q .address) 0 noWord)
 
-unfoldable pub dmaAsked : (count : ℕ) → (entries interrupts : List ℕ) → (stop : ℕ) → PeNumber → DmaRequest → Checked
-dmaAsked k e l w p q = cond (dmaStopped w) (Kept (refuse DmaStopped)) (served (classOf (q .address)) k e l p q)
+unfoldable pub dmaAsked : (count installed : ℕ) → (entries interrupts : List ℕ) → (stop : ℕ) → PeNumber → DmaRequest → Checked
+dmaAsked k i e l w p q = cond (dmaStopped w) (Kept (refuse DmaStopped)) (served (classOf (q .address)) k i e l p q)
 
 -- a load or store with no window has no PE
 unfoldable pub accessed : Hit → PeNumber → (stop : ℕ) → Answer → Answer
 accessed (At n c) p w stopped = cond (mmioStopped w) stopped (Pass c p 0)
 accessed Miss p w stopped = stopped
 
--- N, M and R, the tables that are read before the walk, and what is written
-module _ (z : Sizes) (requesters entries windows segments : List ℕ) (s : Live) where
+-- N, M and R, the installed size, the tables that are read before the walk, and what is written
+module _ (z : Sizes) (installed : ℕ) (requesters entries windows segments : List ℕ) (s : Live) where
   unfoldable pub ask : PeNumber → Request → Checked
-  ask p (Dma q) = dmaAsked (z .interrupts) entries (s .interrupts) (at (s .state) (stopWord p)) p q
+  ask p (Dma q) = dmaAsked (z .interrupts) installed entries (s .interrupts) (at (s .state) (stopWord p)) p q
   ask p (Load a w) = Kept (accessed (route windows segments a) p (at (s .state) (stopWord p)) (Ones (onesOf w)))
   ask p (Store a w) = Kept (accessed (route windows segments a) p (at (s .state) (stopWord p)) Drop)
   ask p (Error r) = Ready p (done (Freeze (record { reason = ErrorMessage; value = r; word = noWord }) true))
@@ -121,13 +134,13 @@ module _ (z : Sizes) (requesters entries windows segments : List ℕ) (s : Live)
       (cond (formed q) (asked q (ownerIn z requesters windows segments (s .interrupts) q)) (Kept (refuse BadRequest)))
       (Kept (refuse TableLength))
 
-abbrev pub arrived : PeNumber → ByteAddress → Translation → Outcome
-arrived p a t = outcomeOf p a (t .result) (length (t .reads))
+abbrev pub arrived : (installed : ℕ) → PeNumber → DmaRequest → Translation → Outcome
+arrived i p q t = reached i p q (t .result) (length (t .reads))
 
-unfoldable pub finish : List ℕ → Checked → Outcome
-finish m (Kept a) = kept a
-finish m (Ready p o) = o
-finish m (Walk p e q) = arrived p (q .address) (byPages m e (q .direction) (offset (q .address)))
+unfoldable pub finish : (installed : ℕ) → List ℕ → Checked → Outcome
+finish i m (Kept a) = kept a
+finish i m (Ready p o) = o
+finish i m (Walk p e q) = arrived i p q (byPages m e (q .direction) (offset (q .address)))
 
 unfoldable pub act : (n : ℕ) → (peers : List ℕ) → PeNumber → Effect → Live → Live
 act n v p Keep s = s
@@ -140,10 +153,11 @@ actBy f (Of p) e s = act (f .sizes .pes) (f .peers) p e s
 actBy f (Nobody r) e s = s
 
 abbrev pub checkedOn : Tables → (memory : ℕ) → Live → Request → Checked
-checkedOn f n s q = checked (f .sizes) (f .requesters) (f .entries) (f .windows) (f .segments) s (sized (f .sizes) (lengths f n s)) q
+checkedOn f n s q =
+    checked (f .sizes) (f .installed) (f .requesters) (f .entries) (f .windows) (f .segments) s (sized (f .sizes) (lengths f n s)) q
 
 abbrev pub decided : Tables → List ℕ → Live → Request → Outcome
-decided f m s q = finish m (checkedOn f (length m) s q)
+decided f m s q = finish (f .installed) m (checkedOn f (length m) s q)
 
 abbrev pub answered : Tables → List ℕ → Live → Request → Answer
 answered f m s q = decided f m s q .answer

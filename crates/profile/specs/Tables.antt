@@ -1,8 +1,10 @@
 -- 01, 'Lent tables': the tables, their sizes, and reason 1.
---     Tables              what is fixed during a sequence, memory apart: the sizes N, M and R, requesters, translation entries, peers, windows, segments
+--     Tables              what is fixed during a sequence, memory apart: the sizes N, M and R, the installed size in bytes, requesters, translation
+--                         entries, peers, windows, segments
 --     Live                what is written: state and interrupts
 --     lengths f n s       the lengths of all lent tables, n being that of memory
---     sized z l           not reason 1: no number and no length is off the table of 01. Its tests: limits z, of N, M and R; dmaLengths z l and
+--     sized z l           not reason 1: no number and no length is off the table of 01, which has no range for the installed size. Its tests: limits z,
+--                         of N, M and R; dmaLengths z l and
 --                         otherLengths z l, of the tables that a DMA reads before its walk and memory, and of the others
 --     entryWords ..       the words of a PE's translation entries, of one record, of a peer vector, of an interrupt, of a PE's state; of the windows
 --     mostPes ..          the limits of N, M, R and memory
@@ -22,6 +24,7 @@ use Rattle.kinds.specs.declared.record.Lengths.{Lengths}
 
 pub record Tables : Type 0 where
   pub sizes : Sizes
+  pub installed : ℕ
   pub requesters : List ℕ
   pub entries : List ℕ
   pub peers : List ℕ

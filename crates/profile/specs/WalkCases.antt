@@ -21,7 +21,7 @@ use Rattle.kinds.specs.declared.request.Direction.the-variants.{Read, Write}
 use Rattle.profile.specs.Opened.{opened}
 use Rattle.profile.specs.Tables.{Tables}
 use Rattle.profile.specs.Walk.{Translation, translated}
-use Rattle.profile.specs.Case.{Case, plain, idle, empty, words, read, write, pass, keeps, freezesAt}
+use Rattle.profile.specs.Case.{Case, largest, installing, plain, idle, empty, words, read, write, pass, keeps, freezesAt}
 use Rattle.profile.specs.DmaCases.{first, passes}
 
 -- a write of one byte that passes; a read and a write that freeze PE 2 with reason 8, and a read with reason 15, after n words, by the word at w
@@ -44,12 +44,12 @@ third w = words 0x2018 w empty
 unfoldable pub pages : List Case
 pages =
     -- 4 KiB, 64 KiB, 16 MiB, 256 MiB
-    passes (first 0x2000 1 1 1) (third 0xFEDCBA9876543003) 0x3ABC 0xFEDCBA9876543ABC 1
-    ∷ passes (first 0x2000 1 1 5) (third 0xFEDCBA9876543003) 0x3ABCD 0xFEDCBA987654ABCD 1
-    ∷ passes (first 0x2000 1 1 13) (third 0xFEDCBA9876543003) 0x3ABCDEF 0xFEDCBA9876ABCDEF 1
-    ∷ passes (first 0x2000 1 1 17) (third 0xFEDCBA9876543003) 0x3ABCDEF1 0xFEDCBA987ABCDEF1 1
+    passes (installing largest (first 0x2000 1 1 1)) (third 0xFEDCBA9876543003) 0x3ABC 0xFEDCBA9876543ABC 1
+    ∷ passes (installing largest (first 0x2000 1 1 5)) (third 0xFEDCBA9876543003) 0x3ABCD 0xFEDCBA987654ABCD 1
+    ∷ passes (installing largest (first 0x2000 1 1 13)) (third 0xFEDCBA9876543003) 0x3ABCDEF 0xFEDCBA9876ABCDEF 1
+    ∷ passes (installing largest (first 0x2000 1 1 17)) (third 0xFEDCBA9876543003) 0x3ABCDEF1 0xFEDCBA987ABCDEF1 1
     -- the last page, and bits 11..2 of the word, which are ignored
-    ∷ passes plain (words 0x2FF8 0xFFFFFFFFFFFFFFFF empty) 0x1FFFFF 0xFFFFFFFFFFFFFFFF 1
+    ∷ passes (installing largest plain) (words 0x2FF8 0xFFFFFFFFFFFFFFFF empty) 0x1FFFFE 0xFFFFFFFFFFFFFFFE 1
     ∷ passes plain (third 0x12345FFD) 0x3000 0x12345000 1
     -- read-valid and write-valid
     ∷ passes plain (third 0x12345001) 0x3ABC 0x12345ABC 1

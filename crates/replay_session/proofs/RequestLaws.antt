@@ -21,6 +21,7 @@ use Rattle.replay_text.specs.declared.Reply.{Reply}
 use Rattle.replay_text.specs.declared.Reply.the-variants.{Says}
 use Rattle.replay_session.specs.Promise.{Requested, ServedParts, cutLive, frontLive}
 use Rattle.replay_text.specs.Session.{replyTo}
+use Rattle.replay_text.specs.SessionTables.{replayInstalled}
 use Rattle.replay_session.proofs.PartLaws.{part-words, part-rest}
 
 -- `serve_parts`
@@ -42,7 +43,7 @@ module _ (f : Tables) (m : List ℕ) (s : Live) where
 
 -- `serve_in`
 pub requested : (x : Extent) (q e m p n w g t : List ℕ) (request : Request) {r : Reply} {qs es ms ps ws gs ns ts : List ℕ} {there : ℕ} →
-    ServedParts (tables (x .sizes) qs es ps ws gs) ms (live t n) request r (live ts ns) →
+    ServedParts (tables (x .sizes) replayInstalled qs es ps ws gs) ms (live t n) request r (live ts ns) →
     there ≡ once (x .sizes .pes) →
     qs ≡ take (x .sizes .requesters * 1) q →
     es ≡ take (x .sizes .pes * entryWords) e →

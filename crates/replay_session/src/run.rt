@@ -13,6 +13,7 @@ use replay_tables;
 use replay_tables::Extent;
 use replay_tables::Replied;
 use replay_text;
+use replay_text::INSTALLED;
 use replay_text::Line;
 use replay_text::Reply;
 use table_lists;
@@ -21,6 +22,7 @@ ghost use Prim.Native.Nat.{_*_};
 ghost use lib.ListN.{take};
 ghost use Rattle.tables.specs.Tables.{tables, live};
 ghost use Rattle.replay_tables.specs.Lent.{lent};
+ghost use Rattle.replay_text.specs.SessionTables.{replayInstalled};
 ghost use Rattle.replay_session.specs.Promise.{RanLine, Requested, ServedParts};
 
 // The part of a table that is in use: its first `count` times `each` words, or all where it has no more.
@@ -51,12 +53,13 @@ fn serve_parts(
     state: &mut [u64],
     request: Request,
 ) -> Reply
-    ensures { λ r. ⌜ ServedParts (tables sizes (now (requesters .entry)) (now (entries .entry)) (now (peers .entry)) (now (windows .entry)) (now (segments .entry))) (now (memory .entry)) (live (now (state .entry)) (now (interrupts .entry))) request r (live (now (state .exit)) (now (interrupts .exit))) ⌝ }
+    ensures { λ r. ⌜ ServedParts (tables sizes replayInstalled (now (requesters .entry)) (now (entries .entry)) (now (peers .entry)) (now (windows .entry)) (now (segments .entry))) (now (memory .entry)) (live (now (state .entry)) (now (interrupts .entry))) request r (live (now (state .exit)) (now (interrupts .exit))) ⌝ }
 {
     let interrupt_end = table_lists::used(sizes.interrupts, INTERRUPT_WORDS, interrupts.len());
     let state_end = table_lists::used(sizes.pes, STATE_WORDS, state.len());
     let answer = handle::handle(
         sizes,
+        INSTALLED,
         requesters,
         entries,
         memory,

@@ -1,5 +1,6 @@
 -- 01, 'Replay text': what a session holds.
 --     Session             the tables, memory and what requests write
+--     replayInstalled     the installed size of every replay: 4 GiB
 --     session z q e ..    a session by its words: sizes z, requesters q, entries e, memory m, peers p, interrupts n, windows w, segments g, state t
 --     start               before the first good size line: no tables, so that every request is 1 and every set line is bad
 --     emptied n m r w     after a good size line: all tables of these sizes, all words 0
@@ -21,10 +22,13 @@ pub record Session : Type 0 where
   pub memory : List ℕ
   pub live : Live
 
+abbrev pub replayInstalled : ℕ
+replayInstalled = 2 ^ 32
+
 -- a session by its words
 abbrev pub session : Sizes → (requesters entries memory peers interrupts windows segments state : List ℕ) → Session
 session z q e m p n w g t = record {
-  tables = record { sizes = z; requesters = q; entries = e; peers = p; windows = w; segments = g };
+  tables = record { sizes = z; installed = replayInstalled; requesters = q; entries = e; peers = p; windows = w; segments = g };
   memory = m;
   live = record { state = t; interrupts = n };
 }

@@ -10,7 +10,7 @@ use mathlib.Core.Bool.{true}
 use mathlib.Core.List.{List, [], _∷_, _++_, map}
 use Rattle.kinds.specs.Answer.{numbered, refuse}
 use Rattle.kinds.specs.declared.answer.Answer.the-variants.{Msi, Ones, Refuse, Done}
-use Rattle.kinds.specs.declared.answer.Reason.the-variants.{BadRequest, TableWord}
+use Rattle.kinds.specs.declared.answer.Reason.the-variants.{BadRequest, TableWord, AboveInstalled}
 use Rattle.isolation.specs.Bridges.{group, tables, words, first, second, list, other, opened-bridges}
 use Rattle.isolation.specs.Isolation.{own}
 use Rattle.isolation.specs.View.{Bridge, Written}
@@ -45,7 +45,8 @@ same-own = refl
 
 group-replies : ownReplies group (holding first) lines ≡
     map (λ a. Says (numbered a))
-    (pass 0x9010 2 2 ∷ pass 0x1000000 1 0 ∷ Msi 1 5 6 ∷ refuse BadRequest ∷ Refuse TableWord 1 (record { 0 = 0x20 }) ∷ Ones 0xFFFFFFFF ∷ Done ∷ Done ∷ [])
+    (pass 0x9010 2 2 ∷ pass 0x1000000 1 0 ∷ Msi 1 5 6 ∷ refuse AboveInstalled ∷ refuse BadRequest ∷ Refuse TableWord 1 (record { 0 = 0x20 }) ∷ Ones 0xFFFFFFFF ∷ Done
+    ∷ Done ∷ [])
 unfolding opened-bridges pass ownReplies replyTo afterLine
 group-replies = refl
 

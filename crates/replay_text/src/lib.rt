@@ -9,6 +9,9 @@ pub const TAB: u8 = 9;
 
 pub const LINE_FEED: u8 = 10;
 
+// The installed size of every replay: 4 GiB.
+pub const INSTALLED: u64 = 0x1_0000_0000;
+
 // The number of the name `bad`.
 const BAD: u64 = 7;
 

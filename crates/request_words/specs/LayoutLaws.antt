@@ -19,7 +19,7 @@ use Rattle.kinds.specs.Words.{at}
 use Rattle.kinds.specs.declared.answer.Answer.{Answer}
 use Rattle.kinds.specs.declared.answer.Answer.the-variants.{Pass, Msi, Held, Ones, Drop, Refuse, Done}
 use Rattle.kinds.specs.declared.answer.Reason.{Reason}
-use Rattle.kinds.specs.declared.answer.Reason.the-variants.{TableLength, BadRequest, UnknownRequester, DmaStopped, AddressClass, BadEntry, OutsideWindow, TableWord, MsiRefused, NoWindow, MmioStopped, ErrorMessage, FrozenAsPeer, BadFirmware, OutsideMemory}
+use Rattle.kinds.specs.declared.answer.Reason.the-variants.{TableLength, BadRequest, UnknownRequester, DmaStopped, AddressClass, BadEntry, OutsideWindow, TableWord, MsiRefused, NoWindow, MmioStopped, ErrorMessage, FrozenAsPeer, BadFirmware, OutsideMemory, AboveInstalled}
 use Rattle.request_words.specs.Layout.{requestWords, answerWords, decodedAt, requestIn, answerList, answersOf, over, wordsAt, written, writtenIn}
 
 pub request-in : (l : List ℕ) (k : ℕ) → k * requestWords + requestWords ≤ length l → requestIn l k ≡ decodedAt l k
@@ -33,7 +33,8 @@ written-in l k a h = rw (lt-ltb k (length l / answerWords) (omega arith))
 reasons : List Reason
 reasons =
     TableLength ∷ TableLength ∷ BadRequest ∷ UnknownRequester ∷ DmaStopped ∷ AddressClass ∷ BadEntry ∷ OutsideWindow ∷ TableWord ∷ MsiRefused
-    ∷ NoWindow ∷ MmioStopped ∷ ErrorMessage ∷ FrozenAsPeer ∷ BadFirmware ∷ OutsideMemory ∷ []
+    ∷ NoWindow ∷ MmioStopped ∷ ErrorMessage ∷ FrozenAsPeer ∷ BadFirmware ∷ OutsideMemory ∷ TableLength ∷ AboveInstalled
+    ∷ []
 
 reasonFrom : ℕ → Reason
 reasonFrom n = lib.ListN.getD reasons n TableLength
@@ -55,6 +56,7 @@ reason-back ErrorMessage = refl
 reason-back FrozenAsPeer = refl
 reason-back BadFirmware = refl
 reason-back OutsideMemory = refl
+reason-back AboveInstalled = refl
 
 answerFrom : List ℕ → Answer
 answerFrom w =

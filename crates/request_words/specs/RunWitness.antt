@@ -69,6 +69,7 @@ pub view : View group first second
 view = record {
   public = record {
     sizes = refl;
+    installed = refl;
     all-lengths = refl;
     requesters = refl;
     peers = refl;

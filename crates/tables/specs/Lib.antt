@@ -1,2 +1,3 @@
 pub mod SizedLaws
 pub mod Tables
+pub mod TablesLaws

@@ -10,8 +10,8 @@ offset-of-requires c κs = search needs
 ask-requires : tie.Need-ask-requires
 ask-requires c κs = search needs
 
-enum-told : tie.Need-enum-told
-enum-told c = search needs
+is-walk-requires : tie.Need-is-walk-requires
+is-walk-requires c κs = search needs
 
 walk-requires : tie.Need-walk-requires
 walk-requires c κs = search needs
@@ -19,41 +19,17 @@ walk-requires c κs = search needs
 returns : tie.Need-returns
 returns c = search laws.by-walk
 
-enum-told-2 : tie.Need-enum-told-2
-enum-told-2 c = search needs
+ended-requires : tie.Need-ended-requires
+ended-requires c κs = search needs
 
-passed-requires : tie.Need-passed-requires
-passed-requires c κs = search needs
+reached-requires : tie.Need-reached-requires
+reached-requires c κs = search needs
 
 ready-requires : tie.Need-ready-requires
 ready-requires c κs = search needs
 
 returns-2 : tie.Need-returns-2
-returns-2 c = search laws.by-bypass
-
-enum-told-3 : tie.Need-enum-told-3
-enum-told-3 c = search needs
-
-failed-requires : tie.Need-failed-requires
-failed-requires c κs = search needs
-
-ready-requires-2 : tie.Need-ready-requires-2
-ready-requires-2 c κs = search needs
-
-returns-3 : tie.Need-returns-3
-returns-3 c = search laws.by-bad
-
-enum-told-4 : tie.Need-enum-told-4
-enum-told-4 c = search needs
-
-failed-requires-2 : tie.Need-failed-requires-2
-failed-requires-2 c κs = search needs
-
-ready-requires-3 : tie.Need-ready-requires-3
-ready-requires-3 c κs = search needs
-
-returns-4 : tie.Need-returns-4
-returns-4 c = search laws.by-outside
+returns-2 c = search laws.by-end
 
 pub by-entry-spec : {M : Type 1} → statement M
 by-entry-spec =
@@ -61,18 +37,10 @@ by-entry-spec =
     (tie.spec
     offset-of-requires
     ask-requires
-    enum-told
+    is-walk-requires
     walk-requires
     returns
-    enum-told-2
-    passed-requires
+    ended-requires
+    reached-requires
     ready-requires
-    returns-2
-    enum-told-3
-    failed-requires
-    ready-requires-2
-    returns-3
-    enum-told-4
-    failed-requires-2
-    ready-requires-3
-    returns-4)
+    returns-2)

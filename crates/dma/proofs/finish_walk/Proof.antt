@@ -10,12 +10,12 @@ offset-of-requires c κs = search needs
 translate-requires : tie.Need-translate-requires
 translate-requires c κs = search needs
 
-outcome-of-requires : tie.Need-outcome-of-requires
-outcome-of-requires c κs = search needs
+reached-requires : tie.Need-reached-requires
+reached-requires c κs = search needs
 
 returns : tie.Need-returns
 returns c = search laws.finished
 
 pub finish-walk-spec : {M : Type 1} → statement M
 finish-walk-spec =
-    tie.close (tie.spec offset-of-requires translate-requires outcome-of-requires returns)
+    tie.close (tie.spec offset-of-requires translate-requires reached-requires returns)

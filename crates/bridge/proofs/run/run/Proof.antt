@@ -13,13 +13,13 @@ use Rattle.bridge.proofs.run.run.Statement.{statement}
 use Rattle.bridge.proofs.run.run.Tie as tie
 
 abbrev Inv-loop : tie.InvT-loop
-Inv-loop sizes requesters entries memory peers interrupts₀ windows segments state₀ requests answers₀ count k₀ interrupts state answers k =
+Inv-loop sizes installed requesters entries memory peers interrupts₀ windows segments state₀ requests answers₀ count k₀ interrupts state answers k =
     (k ≤ count) × (count * requestWords ≤ length requests) × (count * answerWords ≤ length answers₀) × (length interrupts ≡ length interrupts₀) × (length state ≡ length state₀)
     × (length answers ≡ length answers₀)
-    × (runState state interrupts answers ≡ ranTo (tables sizes requesters entries peers windows segments) memory requests (live state₀ interrupts₀) answers₀ k)
+    × (runState state interrupts answers ≡ ranTo (tables sizes installed requesters entries peers windows segments) memory requests (live state₀ interrupts₀) answers₀ k)
 
 abbrev μ-loop : tie.MeasureT-loop
-μ-loop sizes requesters entries memory peers interrupts₀ windows segments state₀ requests answers₀ count k₀ interrupts state answers k =
+μ-loop sizes installed requesters entries memory peers interrupts₀ windows segments state₀ requests answers₀ count k₀ interrupts state answers k =
     count - k
 
 count-of-requires : tie.Need-count-of-requires Inv-loop μ-loop
