@@ -6,13 +6,15 @@
 // Runs every work, or the named one, and prints a line to each: its name, the requests of one
 // repetition, nanoseconds to a request by the plain bridge on values, by the plain bridge on words
 // and by the proved one, and the ratio of the last two. `list` prints the works and the requests
-// of one batch of each.
+// of one batch of each, and after those that a base without the fence cannot serve `fence`.
 //
 // Compiled with `--cfg base` it has the proved code of another commit too: the three are the plain
 // bridge on words, the base and the new code. The base has to take the arguments of
 // `host/celltimber.rs`, with the same words in tables, requests and answers; it may lack the
 // installed size, under which no work is refused. Of a PE's state it may lack the last words: it
-// then knows no word that a walk stopped at, and what it lacks is not compared.
+// then knows no word that a walk stopped at, and what it lacks is not compared. It may lack the
+// fence, with its word and its requests: it is then not given the word, and works that are about the
+// fence are not for it.
 //
 // The requests come in batches. All three serve a batch before the next one is made. They take
 // turns at being first, and at each of the three copies of the tables. Answers and words are
@@ -33,7 +35,7 @@ mod plain_words;
 mod random;
 
 /// The function of the base. `bench/run` writes both files: the base's own `host/celltimber.rs`, with
-/// the symbol of the base, and `tests/plain_words.rs` with the arguments of the base.
+/// the symbols of the base, and the call of `tests/plain_words.rs` with the arguments of the base.
 #[cfg(base)]
 #[allow(dead_code)]
 mod base {
@@ -98,6 +100,8 @@ fn decode(words: &[u64]) -> Request {
         },
         END => Request::End { interrupt: words[1] },
         PRIORITY => Request::Priority { interrupt: words[1], priority: words[2] },
+        FATAL => Request::Fatal { requester: words[1] },
+        FENCE_CLEAR => Request::FenceClear,
         _ => unnamed,
     }
 }
@@ -131,6 +135,8 @@ struct Work {
     before: Vec<RequestWords>,
     /// Whether an answer in a batch is one that the work is about.
     wanted: Box<dyn Fn(&AnswerWords) -> bool>,
+    /// Whether the work is about the fence.
+    fence: bool,
 }
 
 /// The requests of a batch in one call.
@@ -161,6 +167,7 @@ fn works() -> Vec<Work> {
             batch: Box::new(|random| vec![error(random.below(256))]),
             before: clears(0..256),
             wanted: Box::new(|answer| answer[0] == DONE),
+            fence: false,
         },
         freeze_alone_work("freeze-alone-16", 16),
         freeze_alone_work("freeze-alone-256", 256),
@@ -173,7 +180,10 @@ fn works() -> Vec<Work> {
             batch: Box::new(|_| clears(0..256)),
             before: vec![error(0)],
             wanted: Box::new(|answer| answer[0] == DONE),
+            fence: false,
         },
+        fence_work("fatal-and-clear"),
+        fenced_work("fenced-dma"),
     ]
 }
 
@@ -188,6 +198,7 @@ fn refused_work(name: &'static str) -> Work {
         batch: Box::new(|random| thousand(|| error(REQUESTERS + random.below(REQUESTERS)))),
         before: Vec::new(),
         wanted: Box::new(|answer| answer[0] == REFUSE && answer[1] == 3),
+        fence: false,
     }
 }
 
@@ -219,6 +230,7 @@ fn dma_work(name: &'static str, levels: u64, directions: u64) -> Work {
         batch: Box::new(move |random| thousand(|| passing_dma(random, levels, directions))),
         before: Vec::new(),
         wanted: Box::new(move |answer| answer[0] == PASS && answer[3] == levels),
+        fence: false,
     }
 }
 
@@ -308,6 +320,7 @@ fn load_work(name: &'static str, m32: [u64; 3], m64: [u64; 4]) -> Work {
         }),
         before: Vec::new(),
         wanted: Box::new(|answer| answer[0] == PASS),
+        fence: false,
     }
 }
 
@@ -332,6 +345,7 @@ fn msi_work(name: &'static str) -> Work {
         }),
         before: Vec::new(),
         wanted: Box::new(|answer| answer[0] == MSI || answer[0] == DONE),
+        fence: false,
     }
 }
 
@@ -388,6 +402,7 @@ fn freeze_alone_work(name: &'static str, pes: u64) -> Work {
         }),
         before: clears(frozen()),
         wanted: Box::new(|answer| answer[1] == 5),
+        fence: false,
     }
 }
 
@@ -395,6 +410,30 @@ fn freeze_alone_work(name: &'static str, pes: u64) -> Work {
 fn clears(pes: impl Iterator<Item = u64>) -> Vec<RequestWords> {
     let of_pe = |pe| [clear(pe, MMIO_BIT), clear(pe, DMA_BIT), clear(pe, RECORD)];
     pes.flat_map(of_pe).collect()
+}
+
+// ---- The fence ----
+
+/// A fatal message sets the fence, and the request after it clears it.
+fn fence_work(name: &'static str) -> Work {
+    Work {
+        batch: Box::new(|random| {
+            let both = |_| [fatal(random.below(REQUESTERS)), fence_clear()];
+            (0..1_000).flat_map(both).collect()
+        }),
+        wanted: Box::new(|answer| answer[0] == DONE),
+        fence: true,
+        ..refused_work(name)
+    }
+}
+
+/// DMAs of one level, on a bridge that is fenced.
+fn fenced_work(name: &'static str) -> Work {
+    let mut work = dma_work(name, 1, 2);
+    if let Some(word) = work.tables.state.last_mut() {
+        *word = FENCE;
+    }
+    Work { wanted: Box::new(|answer| answer[1] == REASON_FENCED), fence: true, ..work }
 }
 
 // ---- The bridges side by side ----
@@ -436,11 +475,12 @@ const PROGRAMS: [Program; 3] = [VALUES, PLAIN, PROVED];
 #[cfg(base)]
 const PROGRAMS: [Program; 3] = [PLAIN, BASE, PROVED];
 
-/// The words of a PE's state in the base.
+/// The words of a PE's state, and those after the words of all PEs: here, and in the base.
+const STATE: [usize; 2] = [STATE_WORDS, FENCE_WORDS];
 #[cfg(not(base))]
-const BASE_STATE_WORDS: usize = STATE_WORDS;
+const BASE_STATE: [usize; 2] = STATE;
 #[cfg(base)]
-const BASE_STATE_WORDS: usize = base::celltimber::STATE_WORDS;
+const BASE_STATE: [usize; 2] = [base::celltimber::STATE_WORDS, base::celltimber::FENCE_WORDS];
 
 /// The requests of a batch as words and as values, and room for answers as values.
 struct Batch {
@@ -585,36 +625,44 @@ impl Sides {
     /// Leaves out of the base's side the state words that the base lacks. All sides are written, so
     /// that the caches hold them alike.
     fn cut_state(&mut self, turn: usize) {
-        if BASE_STATE_WORDS == STATE_WORDS {
+        if BASE_STATE == STATE {
             return;
         }
-        for (k, words) in [STATE_WORDS, BASE_STATE_WORDS, STATE_WORDS].into_iter().enumerate() {
+        for (k, [words, after]) in [STATE, BASE_STATE, STATE].into_iter().enumerate() {
             for tables in &mut self.0[side_of(k, turn)].bridges {
                 let all = tables.state.clone();
+                let (of_pes, fence) = all.split_at(all.len() - FENCE_WORDS);
                 tables.state.clear();
-                tables.state.extend(all.chunks(STATE_WORDS).flat_map(|all| &all[..words]));
+                tables.state.extend(of_pes.chunks(STATE_WORDS).flat_map(|all| &all[..words]));
+                tables.state.extend(&fence[..after]);
             }
         }
     }
 
     /// Puts in what the base lacks, as the plain bridge has it.
     fn fill_up(&mut self, turn: usize) {
-        if BASE_STATE_WORDS == STATE_WORDS {
+        if BASE_STATE == STATE {
             return;
         }
+        let [words, after] = BASE_STATE;
         let places = [side_of(0, turn), side_of(1, turn)];
         let [plain, base] = self.0.get_disjoint_mut(places).expect("two sides");
         for (plain, base) in plain.bridges.iter().zip(&mut base.bridges) {
             let served = base.state.clone();
             base.state.clone_from(&plain.state);
-            let words = served.chunks(BASE_STATE_WORDS);
-            for (words, all) in words.zip(base.state.chunks_mut(STATE_WORDS)) {
-                all[..BASE_STATE_WORDS].copy_from_slice(words);
+            let length = base.state.len() - FENCE_WORDS;
+            let (of_pes, fence) = base.state.split_at_mut(length);
+            let (served, served_fence) = served.split_at(served.len() - after);
+            for (served, all) in served.chunks(words).zip(of_pes.chunks_mut(STATE_WORDS)) {
+                all[..words].copy_from_slice(served);
             }
+            fence[..after].copy_from_slice(served_fence);
         }
         let answers = plain.answers.chunks(ANSWER_WORDS);
         for (plain, base) in answers.zip(base.answers.chunks_mut(ANSWER_WORDS)) {
-            base[AT_WORD] = plain[AT_WORD];
+            if words < STATE_WORDS {
+                base[AT_WORD] = plain[AT_WORD];
+            }
         }
     }
 
@@ -763,7 +811,8 @@ fn main() {
     }
     if name.is_some_and(|name| name == "list") {
         for work in works() {
-            println!("{} {}", work.name, (work.batch)(&mut Random(1)).len() * work.bridges);
+            let requests = (work.batch)(&mut Random(1)).len() * work.bridges;
+            println!("{} {}{}", work.name, requests, if work.fence { " fence" } else { "" });
         }
         return;
     }

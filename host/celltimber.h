@@ -46,9 +46,11 @@ extern "C" {
  *   CELLTIMBER_CLEAR       PE, part: firmware releases a PE
  *   CELLTIMBER_END         interrupt: firmware ends an interrupt
  *   CELLTIMBER_PRIORITY    interrupt, priority: firmware sets a priority
+ *   CELLTIMBER_FATAL       requester: a fatal error message of a device sets the fence
+ *   CELLTIMBER_FENCE_CLEAR none: firmware clears the fence
  *
  * Another kind, direction or part, and data of 2^32 or more, name no request. Such words are refused with reason 2 and change nothing. The kind
- * CELLTIMBER_UNNAMED names no request now and later; the other kinds above CELLTIMBER_PRIORITY may be given a meaning.
+ * CELLTIMBER_UNNAMED names no request now and later; the other kinds above CELLTIMBER_FENCE_CLEAR may be given a meaning.
  */
 enum celltimber_kind {
     CELLTIMBER_DMA = 0,
@@ -57,7 +59,9 @@ enum celltimber_kind {
     CELLTIMBER_ERROR = 3,
     CELLTIMBER_CLEAR = 4,
     CELLTIMBER_END = 5,
-    CELLTIMBER_PRIORITY = 6
+    CELLTIMBER_PRIORITY = 6,
+    CELLTIMBER_FATAL = 7,
+    CELLTIMBER_FENCE_CLEAR = 8
 };
 #define CELLTIMBER_UNNAMED UINT64_MAX
 
@@ -93,10 +97,10 @@ enum celltimber_answer {
     CELLTIMBER_PASS = 0,   /* the address: in the system for a DMA, on the PCI side for a load or store */
     CELLTIMBER_MSI = 1,    /* the number of the interrupt that is presented */
     CELLTIMBER_HELD = 2,   /* the number of the interrupt that is held: nothing is presented */
-    CELLTIMBER_ONES = 3,   /* a load of an MMIO stopped PE: all ones of its width; reason 11 */
-    CELLTIMBER_DROP = 4,   /* a store of an MMIO stopped PE: 0; reason 11 */
+    CELLTIMBER_ONES = 3,   /* a load of an MMIO stopped PE, or on a fenced bridge: all ones of its width; reason 11 or 18 */
+    CELLTIMBER_DROP = 4,   /* a store of an MMIO stopped PE, or on a fenced bridge: 0; reason 11 or 18 */
     CELLTIMBER_REFUSE = 5, /* 0; the reason says why */
-    CELLTIMBER_DONE = 6    /* 0; an error message or a firmware request was obeyed */
+    CELLTIMBER_DONE = 6    /* 0; an error message, fatal or not, or a firmware request was obeyed */
 };
 
 /* The reason of an answer, and of an error record. In both 0 is none. 'Freezes': both stop bits of the PE
@@ -117,7 +121,8 @@ enum celltimber_reason {
     CELLTIMBER_REASON_FROZEN_AS_PEER = 13,   /* in an error record alone: the PE was frozen as a peer */
     CELLTIMBER_REASON_BAD_FIRMWARE = 14,     /* firmware names no PE or no good interrupt */
     CELLTIMBER_REASON_OUTSIDE_MEMORY = 15,   /* a table word is outside the lent memory; freezes */
-    CELLTIMBER_REASON_ABOVE_INSTALLED = 17   /* the last byte of a DMA is at or above the installed size; freezes */
+    CELLTIMBER_REASON_ABOVE_INSTALLED = 17,  /* the last byte of a DMA is at or above the installed size; freezes */
+    CELLTIMBER_REASON_FENCED = 18            /* the fence is set: of a DMA, MSI, load, store or error message that is not fatal */
 };
 
 /* ---- Numbers of the tables ---- */
@@ -139,6 +144,9 @@ enum celltimber_number {
     CELLTIMBER_INTERRUPT_WORDS = 4,
     CELLTIMBER_STATE_WORDS = 4,
 
+    /* the words of the state after those of all PEs: the fence word, which is no PE's */
+    CELLTIMBER_FENCE_WORDS = 1,
+
     /* the words of all windows: those of M32 first, then those of the 16 M64 windows; the segments of M32 */
     CELLTIMBER_WINDOW_WORDS = 67,
     CELLTIMBER_M32_WORDS = 3,
@@ -152,6 +160,9 @@ enum celltimber_number {
     /* the bits of a stop word, the first word of a PE's state; its other bits stay */
     CELLTIMBER_MMIO_STOP = 1,
     CELLTIMBER_DMA_STOP = 2,
+
+    /* the fence, in the fence word, the last word of the state; its other bits stay */
+    CELLTIMBER_FENCE = 1,
 
     /* the two bits of the last word of an interrupt */
     CELLTIMBER_P = 2,
@@ -187,7 +198,7 @@ enum celltimber_table {
  *   interrupts   4M, M 0 to 4,096            PE, server, priority, 2P + Q
  *   windows      67                          M32: base, size, PCI base; then 16 times M64: base, size, mode, PE
  *   segments     256                         the PE of each segment of M32
- *   state        4N                          to each PE: stop bits, then reason, value and word of its error record
+ *   state        4N + 1                      to each PE: stop bits, then reason, value and word of its error record; then the fence word
  *
  * A replay text names its tables by the same words, but for entries, which are 'translation' there.
  *
@@ -195,8 +206,12 @@ enum celltimber_table {
  * reason 17. Every number is good: none is reason 1, 0 refuses every DMA that would pass, and UINT64_MAX only one that reaches byte 2^64 - 1. It is public,
  * and the same through a sequence, as N is. The length of memory is another matter: no table word is tested against the installed size.
  *
- * Written: in state the words of a PE that is frozen or released, in interrupts the priority and 2P + Q of an interrupt that an MSI or firmware changes,
- * in answers the words of the answers. All other words stay, those of the lists after the last whole answer too.
+ * The fence word is word 4N of state. While its bit 0 is set every DMA, MSI, load and store that is well formed, and every error message that is not fatal,
+ * is answered with reason 18 and changes nothing. A fatal message of a requester that has a PE sets the bit, a fence clear clears it. The word is public, and
+ * the host keeps it from call to call, as it keeps the rest of state.
+ *
+ * Written: in state the words of a PE that is frozen or released and bit 0 of the fence word, in interrupts the priority and 2P + Q of an interrupt that an MSI
+ * or firmware changes, in answers the words of the answers. All other words stay, those of the lists after the last whole answer too.
  */
 size_t celltimber_run(
     uint64_t pes,
@@ -217,8 +232,8 @@ size_t celltimber_run(
 /* ---- libisolation_tests.a: only celltimber_covers writes. A group is a bit vector of four words, as a peer vector is; other words of it are nobody's ---- */
 
 /*
- * The number of the PE that the request belongs to; CELLTIMBER_NOBODY where there is none, where a table is too short to say it, for words that name no
- * request, and where N is above its limit. The request is its first six words.
+ * The number of the PE that the request belongs to; CELLTIMBER_NOBODY where there is none, where a table is too short to say it, for a fence clear and for
+ * words that name no request, and where N is above its limit. The request is its first six words.
  */
 uint64_t celltimber_owner(
     uint64_t pes,
@@ -260,9 +275,10 @@ uint64_t celltimber_covers(
 
 /*
  * 1 if word `index` of a table is public or the group's, else 0. The table is a number of enum celltimber_table; of another number it is 1. A memory word is
- * the group's if it has a mark.
+ * the group's if it has a mark. The fence word, word 4N of the state, is public.
  */
 uint64_t celltimber_seen(
+    uint64_t pes,
     const uint64_t *interrupts, size_t interrupts_length,
     const uint64_t *marks, size_t marks_length,
     const uint64_t *group, size_t group_length,

@@ -22,6 +22,8 @@ pub const ERROR: u64 = 3;
 pub const CLEAR: u64 = 4;
 pub const END: u64 = 5;
 pub const PRIORITY: u64 = 6;
+pub const FATAL: u64 = 7;
+pub const FENCE_CLEAR: u64 = 8;
 pub const UNNAMED: u64 = u64::MAX;
 
 // The direction of a DMA.
@@ -59,6 +61,14 @@ pub fn end(interrupt: u64) -> RequestWords {
 
 pub fn priority(interrupt: u64, priority: u64) -> RequestWords {
     [PRIORITY, interrupt, priority, 0, 0, 0, 0, 0]
+}
+
+pub fn fatal(requester: u64) -> RequestWords {
+    [FATAL, requester, 0, 0, 0, 0, 0, 0]
+}
+
+pub fn fence_clear() -> RequestWords {
+    [FENCE_CLEAR, 0, 0, 0, 0, 0, 0, 0]
 }
 
 // ---- Answers ----
@@ -99,6 +109,7 @@ pub const REASON_FROZEN_AS_PEER: u64 = 13;
 pub const REASON_BAD_FIRMWARE: u64 = 14;
 pub const REASON_OUTSIDE_MEMORY: u64 = 15;
 pub const REASON_ABOVE_INSTALLED: u64 = 17;
+pub const REASON_FENCED: u64 = 18;
 
 // ---- Tables ----
 
@@ -109,12 +120,13 @@ pub const MOST_REQUESTERS: u64 = 65_536;
 pub const MOST_MEMORY: u64 = 1_048_576;
 
 // The words of a PE's translation entries and of one of its two records, of a peer vector, of an
-// interrupt, of a PE's state.
+// interrupt, of a PE's state. The words of the state after those of all PEs: the fence word.
 pub const ENTRY_WORDS: usize = 8;
 pub const RECORD_WORDS: usize = 4;
 pub const PEER_WORDS: usize = 4;
 pub const INTERRUPT_WORDS: usize = 4;
 pub const STATE_WORDS: usize = 4;
+pub const FENCE_WORDS: usize = 1;
 
 // The words of all windows: those of M32 first, then those of the M64 windows. The segments of M32.
 pub const WINDOW_WORDS: usize = 67;
@@ -126,9 +138,10 @@ pub const SEGMENT_COUNT: usize = 256;
 /// The priority that holds every MSI.
 pub const HOLDING: u64 = 255;
 
-// The bits of a stop word, and of the last word of an interrupt.
+// The bits of a stop word, of the fence word, and of the last word of an interrupt.
 pub const MMIO_STOP: u64 = 1;
 pub const DMA_STOP: u64 = 2;
+pub const FENCE: u64 = 1;
 pub const P: u64 = 2;
 pub const Q: u64 = 1;
 
@@ -178,7 +191,8 @@ extern "C" {
 
 /// Serves as many whole requests as `requests` and `answers` both hold; returns their number.
 /// `installed` is the installed size, the bytes of system memory: any number. A DMA that would pass
-/// and whose last byte is at or above it is refused with reason 17.
+/// and whose last byte is at or above it is refused with reason 17. The last word of `state`, after
+/// those of the PEs, is the fence word.
 #[allow(clippy::too_many_arguments)]
 pub fn run(
     pes: u64,
@@ -273,6 +287,7 @@ extern "C" {
         under_length: usize,
     ) -> u64;
     fn celltimber_seen(
+        pes: u64,
         interrupts: *const u64,
         interrupts_length: usize,
         marks: *const u64,
@@ -379,10 +394,18 @@ pub fn marks(pes: u64, entries: &[u64], memory: &[u64], group: &[u64]) -> Option
     covers(pes, entries, memory, group, &mut marks, &mut tables, &mut under).then_some(marks)
 }
 
-/// Whether word `index` of a table is public or the group's.
-pub fn seen(interrupts: &[u64], marks: &[u64], group: &[u64], table: u64, index: usize) -> bool {
+/// Whether word `index` of a table is public or the group's. The fence word is public.
+pub fn seen(
+    pes: u64,
+    interrupts: &[u64],
+    marks: &[u64],
+    group: &[u64],
+    table: u64,
+    index: usize,
+) -> bool {
     holds(unsafe {
         celltimber_seen(
+            pes,
             interrupts.as_ptr(),
             interrupts.len(),
             marks.as_ptr(),

@@ -9,7 +9,7 @@ int main(void)
 {
     static uint16_t requesters[8], segments[CELLTIMBER_SEGMENT_COUNT];
     static uint64_t entries[4 * CELLTIMBER_ENTRY_WORDS], memory[0x1000], peers[4 * CELLTIMBER_PEER_WORDS];
-    static uint64_t windows[CELLTIMBER_WINDOW_WORDS], state[4 * CELLTIMBER_STATE_WORDS];
+    static uint64_t windows[CELLTIMBER_WINDOW_WORDS], state[4 * CELLTIMBER_STATE_WORDS + CELLTIMBER_FENCE_WORDS];
     const uint64_t request[CELLTIMBER_REQUEST_WORDS] = {CELLTIMBER_DMA, 5, CELLTIMBER_READ, 0x3ABC, 4, 0};
     uint64_t answer[CELLTIMBER_ANSWER_WORDS], *record = &entries[2 * CELLTIMBER_ENTRY_WORDS]; /* the first record of PE 2 */
 

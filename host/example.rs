@@ -9,7 +9,7 @@ use celltimber::*;
 fn main() {
     let (mut requesters, segments) = ([0; 8], [0; SEGMENT_COUNT]);
     let (mut entries, mut memory, peers) = ([0; 4 * ENTRY_WORDS], [0; 0x1000], [0; 4 * PEER_WORDS]);
-    let (windows, mut state) = ([0; WINDOW_WORDS], [0; 4 * STATE_WORDS]);
+    let (windows, mut state) = ([0; WINDOW_WORDS], [0; 4 * STATE_WORDS + FENCE_WORDS]);
     let request = dma(5, READ, 0x3ABC, 4, 0);
     let mut answer = [0; ANSWER_WORDS];
 

@@ -1,5 +1,5 @@
 // The bridge: requester lookup, DMA through translation tables or bypass, MSI,
-// loads and stores, error messages, stop bits and firmware requests.
+// loads and stores, error messages, stop bits, the fence and firmware requests.
 //
 // A PE (partitionable endpoint) is the unit that is stopped and released.
 // The tables are plain vectors; only `state` and `interrupts` are written.
@@ -7,9 +7,15 @@
 /// The most interrupts. The 32-bit window has a number for each.
 pub const MOST_INTERRUPTS: u64 = 4_096;
 
+/// State words of each PE. After those of all PEs comes one word more, the fence word.
+pub const STATE_WORDS: usize = 4;
+
 /// Stop bits in the first state word of a PE. Its other bits stay as they are.
 pub const MMIO_STOP: u64 = 1;
 pub const DMA_STOP: u64 = 2;
+
+/// The fence, in the fence word. Its other bits stay as they are.
+pub const FENCE: u64 = 1;
 
 /// P and Q: the last word of an interrupt is 2P+Q.
 pub const PENDING: u64 = 2;
@@ -20,6 +26,7 @@ pub const MASKED: u64 = 255;
 
 /// What a device, the processor or the firmware asks for.
 /// Numbers are wide: one that no table has is refused, never cut.
+/// `Fatal` is a fatal error message, `Error` any other.
 #[derive(Clone, Copy, Debug, PartialEq, Eq)]
 pub enum Request {
     Dma { requester: u64, write: bool, address: u64, length: u64, data: u32 },
@@ -29,6 +36,8 @@ pub enum Request {
     Clear { pe: u64, part: Part },
     End { interrupt: u64 },
     Priority { interrupt: u64, priority: u64 },
+    Fatal { requester: u64 },
+    FenceClear,
 }
 
 /// What firmware may clear of a PE: one stop bit or the error record.
@@ -54,7 +63,7 @@ pub enum Name {
 #[derive(Clone, Copy, Debug, PartialEq, Eq)]
 pub struct Answer {
     pub name: Name,
-    /// 0 unless the request is refused; `Ones` and `Drop` carry 11.
+    /// 0 unless the request is refused; `Ones` and `Drop` carry 11 or 18.
     pub reason: u64,
     /// The address of a pass, the number of an interrupt, all ones, or 0.
     pub value: u64,
@@ -76,6 +85,15 @@ fn answer(name: Name, reason: u64, value: u64, words: u64) -> Answer {
 
 fn refuse(reason: u64, words: u64) -> Answer {
     answer(Name::Refuse, reason, 0, words)
+}
+
+/// A load is answered with all ones, a store is dropped.
+fn not_served(load: bool, reason: u64, all_ones: u64) -> Answer {
+    if load {
+        answer(Name::Ones, reason, all_ones, 0)
+    } else {
+        answer(Name::Drop, reason, 0, 0)
+    }
 }
 
 fn done() -> Answer {
@@ -115,7 +133,7 @@ pub struct Bridge {
     pub windows: Vec<u64>,
     /// PE of each M32 segment.
     pub segments: Vec<u16>,
-    /// Stop bits; reason, value and word of the error record.
+    /// To each PE: stop bits; reason, value and word of the error record. Then the fence word.
     pub state: Vec<u64>,
 }
 
@@ -134,7 +152,7 @@ impl Bridge {
             interrupts: vec![0; 4 * m as usize],
             windows: vec![0; 67],
             segments: vec![0; 256],
-            state: vec![0; 4 * n as usize],
+            state: vec![0; fence_place(n) + 1],
         }
     }
 
@@ -153,6 +171,8 @@ impl Bridge {
             Request::Clear { pe, part } => self.clear(pe, part),
             Request::End { interrupt } => self.end_of_interrupt(interrupt),
             Request::Priority { interrupt, priority } => self.set_priority(interrupt, priority),
+            Request::Fatal { requester } => self.fatal_message(requester),
+            Request::FenceClear => self.clear_fence(),
         }
     }
 
@@ -170,7 +190,7 @@ impl Bridge {
             && length(&self.interrupts) == 4 * self.m
             && length(&self.windows) == 67
             && self.segments.len() == 256
-            && length(&self.state) == 4 * self.n
+            && self.state.len() == fence_place(self.n) + 1
     }
 
     /// The PE of a requester, if it is known.
@@ -184,6 +204,16 @@ impl Bridge {
         } else {
             None
         }
+    }
+
+    // ---- Fence ----
+
+    fn is_fenced(&self) -> bool {
+        self.state[fence_place(self.n)] & FENCE != 0
+    }
+
+    fn fence_word(&mut self) -> &mut u64 {
+        &mut self.state[fence_place(self.n)]
     }
 
     // ---- Freeze ----
@@ -201,11 +231,12 @@ impl Bridge {
 
     /// Sets both stop bits of one PE; its error record is written only if empty.
     fn stop(&mut self, pe: usize, reason: u64, value: u64, word: u64) {
-        self.state[4 * pe] |= MMIO_STOP | DMA_STOP;
-        if self.state[4 * pe + 1] == 0 {
-            self.state[4 * pe + 1] = reason;
-            self.state[4 * pe + 2] = value;
-            self.state[4 * pe + 3] = word;
+        let at = STATE_WORDS * pe;
+        self.state[at] |= MMIO_STOP | DMA_STOP;
+        if self.state[at + 1] == 0 {
+            self.state[at + 1] = reason;
+            self.state[at + 2] = value;
+            self.state[at + 3] = word;
         }
     }
 
@@ -215,11 +246,14 @@ impl Bridge {
         if length < 1 || length > 4_096 || address % 4_096 + length > 4_096 {
             return refuse(2, 0);
         }
+        if self.is_fenced() {
+            return refuse(18, 0);
+        }
         let pe = match self.pe_of(requester) {
             Some(pe) => pe,
             None => return refuse(3, 0),
         };
-        if self.state[4 * pe] & DMA_STOP != 0 {
+        if self.state[STATE_WORDS * pe] & DMA_STOP != 0 {
             return refuse(4, 0);
         }
         match address >> 60 {
@@ -394,16 +428,15 @@ impl Bridge {
         if address % width != 0 {
             return refuse(2, 0);
         }
+        if self.is_fenced() {
+            return not_served(load, 18, all_ones);
+        }
         let (pci_address, pe) = match self.window_of(address) {
             Some((pci_address, pe)) if pe < self.n => (pci_address, pe),
             _ => return refuse(10, 0),
         };
-        if self.state[4 * pe as usize] & MMIO_STOP != 0 {
-            return if load {
-                answer(Name::Ones, 11, all_ones, 0)
-            } else {
-                answer(Name::Drop, 11, 0, 0)
-            };
+        if self.state[STATE_WORDS * pe as usize] & MMIO_STOP != 0 {
+            return not_served(load, 11, all_ones);
         }
         pass(pci_address, pe, 0)
     }
@@ -439,6 +472,9 @@ impl Bridge {
     // ---- Error messages ----
 
     fn error_message(&mut self, requester: u64) -> Answer {
+        if self.is_fenced() {
+            return refuse(18, 0);
+        }
         match self.pe_of(requester) {
             Some(pe) => {
                 self.freeze_with_peers(pe, 12, requester);
@@ -448,13 +484,22 @@ impl Bridge {
         }
     }
 
+    /// A fatal message sets the fence, stopped or fenced or not. It freezes nobody.
+    fn fatal_message(&mut self, requester: u64) -> Answer {
+        if self.pe_of(requester).is_none() {
+            return refuse(3, 0);
+        }
+        *self.fence_word() |= FENCE;
+        done()
+    }
+
     // ---- Firmware ----
 
     fn clear(&mut self, pe: u64, part: Part) -> Answer {
         if pe >= self.n {
             return refuse(14, 0);
         }
-        let at = 4 * pe as usize;
+        let at = STATE_WORDS * pe as usize;
         match part {
             Part::Mmio => self.state[at] &= !MMIO_STOP,
             Part::Dma => self.state[at] &= !DMA_STOP,
@@ -464,6 +509,11 @@ impl Bridge {
                 self.state[at + 3] = 0;
             }
         }
+        done()
+    }
+
+    fn clear_fence(&mut self) -> Answer {
+        *self.fence_word() &= !FENCE;
         done()
     }
 
@@ -505,6 +555,11 @@ impl Bridge {
         }
         done()
     }
+}
+
+/// The place of the fence word, after the words of n PEs. It is the last of the state, and no PE's.
+pub fn fence_place(n: u64) -> usize {
+    STATE_WORDS * n as usize
 }
 
 /// Whether a window covers an address, also one that ends at 2^64.

@@ -12,7 +12,9 @@ use std::process;
 
 use self::bridge::{Answer, Bridge, Name, Part, Request};
 
+// No line is a fatal message or a fence clear.
 #[path = "bridge.rs"]
+#[allow(dead_code)]
 pub mod bridge;
 
 /// A well-formed line; its numbers may still be off the limits.
@@ -211,7 +213,7 @@ fn place(name: Name) -> usize {
 #[derive(Default)]
 pub struct Counts {
     answers: [u64; 8],
-    reasons: [u64; 18],
+    reasons: [u64; 19],
 }
 
 impl Counts {
@@ -220,7 +222,7 @@ impl Counts {
         for (name, count) in ANSWERS.iter().zip(&self.answers) {
             writeln!(out, "{}\t{}", name, count)?;
         }
-        for reason in (1..=11).chain([14, 15, 17]) {
+        for reason in (1..=11).chain([14, 15, 17, 18]) {
             writeln!(out, "reason-{}\t{}", reason, self.reasons[reason])?;
         }
         Ok(())

@@ -31,6 +31,14 @@ fn dropped() -> AnswerWords {
     [DROP, 11, 0, 0, 0, 0, 0, 0]
 }
 
+fn fenced_ones(value: u64) -> AnswerWords {
+    [ONES, 18, value, 0, 0, 0, 0, 0]
+}
+
+fn fenced_drop() -> AnswerWords {
+    [DROP, 18, 0, 0, 0, 0, 0, 0]
+}
+
 fn refuse(reason: u64, words: u64) -> AnswerWords {
     [REFUSE, reason, 0, words, 0, 0, 0, 0]
 }
@@ -81,7 +89,7 @@ use Change::{Interrupt, State};
 
 /// A PE whose words were 0 is frozen: both stop bits, then the error record.
 fn frozen(pe: usize, reason: u64, value: u64, word: u64) -> [Change; 4] {
-    let at = 4 * pe;
+    let at = STATE_WORDS * pe;
     [State(at, 3), State(at + 1, reason), State(at + 2, value), State(at + 3, word)]
 }
 
@@ -106,7 +114,7 @@ impl Tables {
         tables
     }
 
-    /// Other sizes, with the lengths that agree; a further word is 0.
+    /// Other sizes, with the lengths that agree; a further word is 0. The fence word stays the last.
     fn resize(&mut self, n: usize, m: usize, r: usize, memory_words: usize) {
         self.pes = n as u64;
         self.interrupt_count = m as u64;
@@ -116,7 +124,14 @@ impl Tables {
         self.memory.resize(memory_words, 0);
         self.peers.resize(4 * n, 0);
         self.interrupts.resize(4 * m, 0);
-        self.state.resize(4 * n, 0);
+        let fence = self.state.pop().unwrap_or(0);
+        self.state.resize(STATE_WORDS * n, 0);
+        self.state.push(fence);
+    }
+
+    /// The fence word.
+    fn fence(&mut self) -> &mut u64 {
+        &mut self.state[STATE_WORDS * self.pes as usize]
     }
 
     fn set_entry(&mut self, pe: usize, record: usize, words: [u64; 4]) {
@@ -194,6 +209,20 @@ impl Tables {
             );
         }
         self.check_same(&after);
+    }
+
+    /// Requests with their answers, in one call and one to a call: the words left are the same.
+    #[track_caller]
+    fn check_both_ways(&mut self, served: &[(RequestWords, AnswerWords)], changes: &[Change]) {
+        let (requests, answers): (Vec<_>, Vec<_>) = served.iter().copied().unzip();
+        let mut one_by_one = self.clone();
+        self.check_list(&requests, &answers, changes);
+        for (request, answer) in served {
+            let mut given = [UNWRITTEN; ANSWER_WORDS];
+            assert_eq!(one_by_one.serve(request, &mut given), 1);
+            assert_eq!(given, *answer);
+        }
+        one_by_one.check_same(self);
     }
 
     #[track_caller]
@@ -377,7 +406,7 @@ fn largest() -> Tables {
 }
 
 /// Every kind of request, words that name none too.
-fn of_every_kind() -> [RequestWords; 10] {
+fn of_every_kind() -> [RequestWords; 12] {
     [
         dma(65_535, READ, 0x1F_FFFC, 4, 0),
         dma(65_535, WRITE, NARROW, 4, 0),
@@ -388,14 +417,16 @@ fn of_every_kind() -> [RequestWords; 10] {
         clear(255, RECORD),
         dma(65_535, READ, 0x20_0000, 4, 0),
         error(65_535),
-        [7, 0, 0, 0, 0, 0, 0, 0],
+        [9, 0, 0, 0, 0, 0, 0, 0],
+        fatal(65_535),
+        fence_clear(),
     ]
 }
 
 #[test]
 fn full_size_every_kind() {
     let mut t = largest();
-    t.state[1_021..].copy_from_slice(&[99, 98, 97]);
+    t.state[1_021..1_024].copy_from_slice(&[99, 98, 97]);
     let answers = [
         pass(0xABCD_EFFC, 255, 1),
         msi(LAST, 0xFF_FFFF, 254),
@@ -407,8 +438,11 @@ fn full_size_every_kind() {
         refuse(7, 0),
         done(),
         refuse(2, 0),
+        done(),
+        done(),
     ];
     // The end clears the P that the MSI set. The record is cleared, then written by reason 7 alone.
+    // The fence is set and cleared.
     let mut changes = vec![Interrupt(LAST_PRIORITY, 255)];
     changes.extend(frozen(255, 7, 0x20_0000, 0));
     t.check_list(&of_every_kind(), &answers, &changes);
@@ -503,6 +537,8 @@ fn full_size_peers() {
 fn peers_of_n_and_above() {
     for n in [1, 4, 63, 64, 65, 128, 255] {
         let mut t = Tables::new(n, 0, 1, 0);
+        // PE N is not there, and the word after those of the PEs is not its stop word.
+        *t.fence() = u64::MAX - 1;
         for k in n..256 {
             t.peers[k / 64] |= 1 << (k % 64);
         }
@@ -622,10 +658,12 @@ fn full_size_loads_and_stores() {
 #[test]
 fn full_size_firmware() {
     let mut t = largest();
-    t.state[1_020..].copy_from_slice(&[u64::MAX, 15, u64::MAX, u64::MAX]);
+    t.state[1_020..1_024].copy_from_slice(&[u64::MAX, 15, u64::MAX, u64::MAX]);
     t.check(clear(255, MMIO_BIT), done(), &[State(1_020, u64::MAX - 1)]);
     t.check(clear(255, DMA_BIT), done(), &[State(1_020, u64::MAX - 3)]);
     t.check(clear(255, RECORD), done(), &[State(1_021, 0), State(1_022, 0), State(1_023, 0)]);
+    // PE 256 is not there; the fence word would be its stop word.
+    *t.fence() = u64::MAX;
     for pe in [256, 0x1_00FF, u64::MAX] {
         for part in [MMIO_BIT, DMA_BIT, RECORD] {
             t.keeps(clear(pe, part), refuse(14, 0));
@@ -640,7 +678,7 @@ fn full_size_firmware() {
 fn refuses_all(name: &str, mut t: Tables) {
     println!("{}", name);
     let requests = of_every_kind();
-    t.check_list(&requests, &[refuse(1, 0); 10], &[]);
+    t.check_list(&requests, &[refuse(1, 0); 12], &[]);
     for request in requests {
         t.keeps(request, refuse(1, 0));
     }
@@ -698,8 +736,11 @@ fn lengths_one_off() {
     change("windows one long", |t| t.windows.push(0));
     change("segments one short", |t| t.segments.truncate(255));
     change("segments one long", |t| t.segments.push(0));
-    change("state one short", |t| t.state.truncate(1_023));
+    change("state without the fence word", |t| t.state.truncate(1_024));
+    change("state two short", |t| t.state.truncate(1_023));
     change("state one long", |t| t.state.push(0));
+    change("state with a fence and one long", |t| t.state.splice(1_024.., [1, 1]).for_each(drop));
+    change("state of one PE more", |t| t.state.resize(1_029, 0));
     change("state of three words to each PE", |t| t.state.truncate(768));
     change("all empty", |t| {
         t.resize(0, 0, 0, 0);
@@ -1064,7 +1105,7 @@ fn with_state(words: [u64; 4]) -> Tables {
     t.set_word(0x4028, GIB_4 | 3);
     t.peers[8] = 1 << 3;
     t.state[8..12].copy_from_slice(&words);
-    t.state[12..].copy_from_slice(&words);
+    t.state[12..16].copy_from_slice(&words);
     t
 }
 
@@ -1344,7 +1385,7 @@ fn installed_size_is_no_reason_1() {
         assert_eq!(answers, if passes { pass(0xABCD_EFFC, 255, 1) } else { refuse(17, 1) });
         // A length that is wrong is 1 under every size.
         let mut short = Tables { installed, ..largest() };
-        short.state.truncate(1_023);
+        short.state.truncate(1_024);
         refuses_all("state one short", short);
     }
 }
@@ -1379,6 +1420,282 @@ fn installed_in_a_list() {
     changes[0] = State(8, 2);
     changes.extend(frozen(3, 17, GIB_4, 0));
     t.check_list(&requests, &answers, &changes);
+}
+
+// ---- The fence ----
+
+/// The place of the fence word where N is 4.
+const FENCE_AT: usize = 16;
+
+/// Fence words: the fence is set, and clear.
+const FENCED: [u64; 4] = [1, 3, 0x8000_0000_0000_0001, u64::MAX];
+const UNFENCED: [u64; 4] = [0, 2, 0x8000_0000_0000_0000, u64::MAX - 1];
+
+/// The tables of `with_state`, on which requester 6 is PE 3 and requester 7 is none. Interrupt 7 is
+/// PE 2's; segment 3 of M32 is PE 2's, segment 4 is nobody's, and M64 0 is PE 3's. PE 3 is stopped.
+fn of_the_fence() -> Tables {
+    let mut t = with_state([0; 4]);
+    t.requesters[6] = 3;
+    t.requesters[7] = 4;
+    t.set_interrupt(7, [2, 0x42, 5, 0]);
+    t.set_m32([0x1_0000_0000, 0x1000_0000, 0x8000_0000]);
+    t.segments[3] = 2;
+    t.segments[4] = 4;
+    t.set_m64(0, [1 << 40, 1 << 28, 1, 3]);
+    t.state[12..16].copy_from_slice(&[3, 12, 6, 0]);
+    t
+}
+
+/// The rows of `docs/HOST.md`, 'The fence'.
+#[test]
+fn fence_one_after_the_other() {
+    let mut t = of_the_cases();
+    t.set_word(0x2018, 0x1234_5003);
+    t.set_m32([0x1_0000_0000, 0x1000_0000, 0x8000_0000]);
+    let read = dma(5, READ, 0x3ABC, 4, 0);
+    t.check(fatal(5), done(), &[State(16, 1)]);
+    t.keeps(read, refuse(18, 0));
+    t.keeps(dma(5, READ, 0x3FFF, 2, 0), refuse(2, 0));
+    t.keeps(load(0x1_0030_0010, 4), fenced_ones(0xFFFF_FFFF));
+    t.keeps(store(0x10, 2), fenced_drop());
+    t.keeps(error(5), refuse(18, 0));
+    t.keeps(fatal(8), refuse(3, 0));
+    t.check(fence_clear(), done(), &[State(16, 0)]);
+    t.keeps(read, pass(0x1234_5ABC, 2, 1));
+}
+
+#[test]
+fn fence_stops_dma_and_msi() {
+    let good = by_index(1, 1, 1);
+    // Those that would freeze, pass, be presented, be of a stopped PE or of no PE.
+    let mut stops: Vec<RequestWords> = that_freeze().map(|(a, _)| dma(5, READ, a, 4, 0)).to_vec();
+    for requester in [5, 6, 7, 8, 0x1_0005, u64::MAX] {
+        stops.push(dma(requester, READ, good, 4, 0));
+        stops.push(dma(requester, WRITE, good, 4_096, 0xFFFF_FFFF));
+        stops.push(dma(requester, WRITE, 0xFFFF_0070, 4, 0));
+        stops.push(dma(requester, WRITE, 0x1000_0000_0000_0070, 4, 0));
+        stops.push(dma(requester, READ, u64::MAX, 1, 0));
+    }
+    let malformed = [(good, 0), (good, 4_097), (good | 0xFFF, 2), (0xFFFF_0070, 0), (u64::MAX, 2)];
+    let mut t = of_the_fence();
+    for fence in FENCED {
+        *t.fence() = fence;
+        t.check_list(&stops, &vec![refuse(18, 0); stops.len()], &[]);
+        for (address, length) in malformed {
+            for requester in [5, 6, 7, 8] {
+                t.keeps(dma(requester, WRITE, address, length, 0), refuse(2, 0));
+            }
+        }
+    }
+    // The other bits are no fence.
+    for fence in UNFENCED {
+        *t.fence() = fence;
+        for (address, answer) in that_freeze() {
+            let request = dma(5, READ, address, 4, 0);
+            t.would_freeze(request, answer, (2, answer[AT_REASON], address));
+        }
+        t.keeps(dma(5, READ, good, 4, 0), pass(0x9000, 2, 3));
+        t.keeps(dma(6, READ, good, 4, 0), refuse(4, 0));
+        t.keeps(dma(7, READ, good, 4, 0), refuse(3, 0));
+        let message = dma(5, WRITE, 0xFFFF_0070, 4, 0);
+        t.clone().check(message, msi(7, 0x42, 5), &[Interrupt(31, 2)]);
+    }
+}
+
+#[test]
+fn fence_stops_loads_and_stores() {
+    // A window of PE 2, of PE 3, which is stopped, of nobody, and none; without a fence.
+    let unfenced = [
+        (0x1_0030_0010, pass(0x8030_0010, 2, 0), pass(0x8030_0010, 2, 0)),
+        ((1 << 40) + 8, ones(u64::MAX), dropped()),
+        (0x1_0040_0000, refuse(10, 0), refuse(10, 0)),
+        (0xFFFF_FFFF_FFFF_FFF0, refuse(10, 0), refuse(10, 0)),
+    ];
+    let mut t = of_the_fence();
+    for (address, loaded, stored) in unfenced {
+        for fence in FENCED {
+            *t.fence() = fence;
+            for (width, value) in [(1, 0xFF), (2, 0xFFFF), (4, 0xFFFF_FFFF), (8, u64::MAX)] {
+                t.keeps(load(address, width), fenced_ones(value));
+                t.keeps(store(address, width), fenced_drop());
+                if width > 1 {
+                    t.keeps(load(address + 1, width), refuse(2, 0));
+                }
+            }
+            for width in [0, 3, 16, u64::MAX] {
+                t.keeps(load(address, width), refuse(2, 0));
+                t.keeps(store(address, width), refuse(2, 0));
+            }
+        }
+        for fence in UNFENCED {
+            *t.fence() = fence;
+            t.keeps(load(address, 8), loaded);
+            t.keeps(store(address, 8), stored);
+        }
+    }
+}
+
+#[test]
+fn fence_stops_error_messages() {
+    let mut t = of_the_fence();
+    for fence in FENCED {
+        *t.fence() = fence;
+        for requester in [5, 6, 7, 8, 0x1_0005, u64::MAX] {
+            t.keeps(error(requester), refuse(18, 0));
+        }
+    }
+    for fence in UNFENCED {
+        *t.fence() = fence;
+        t.would_freeze(error(5), done(), (2, 12, 5));
+        t.keeps(error(6), done());
+        t.keeps(error(7), refuse(3, 0));
+    }
+}
+
+#[test]
+fn fatal_messages() {
+    // Whatever the PE's words and its peers are, no word but the fence changes.
+    for state in [[0; 4], [1, 0, 7, 7], [2, 12, 5, 0], [7, 0, 0, 0], [u64::MAX; 4]] {
+        let mut t = of_the_fence();
+        t.state[8..12].copy_from_slice(&state);
+        t.peers[8..12].fill(u64::MAX);
+        for fence in UNFENCED {
+            *t.fence() = fence;
+            t.clone().check(fatal(5), done(), &[State(FENCE_AT, fence | FENCE)]);
+            t.clone().check(fatal(6), done(), &[State(FENCE_AT, fence | FENCE)]);
+        }
+        for fence in FENCED {
+            *t.fence() = fence;
+            t.keeps(fatal(5), done());
+        }
+        // An unknown requester.
+        for fence in UNFENCED.into_iter().chain(FENCED) {
+            *t.fence() = fence;
+            for requester in [7, 8, 0x1_0005, (1 << 32) + 5, u64::MAX] {
+                t.keeps(fatal(requester), refuse(3, 0));
+            }
+        }
+    }
+}
+
+#[test]
+fn fence_clears() {
+    let mut t = of_the_fence();
+    for fence in FENCED {
+        *t.fence() = fence;
+        t.clone().check(fence_clear(), done(), &[State(FENCE_AT, fence - 1)]);
+    }
+    for fence in UNFENCED {
+        *t.fence() = fence;
+        t.keeps(fence_clear(), done());
+    }
+}
+
+#[test]
+fn firmware_on_a_fenced_bridge() {
+    let message = dma(5, WRITE, 0xFFFF_0070, 4, 0);
+    for fence in FENCED.into_iter().chain(UNFENCED) {
+        let mut t = of_the_fence();
+        *t.fence() = fence;
+        t.set_interrupt(7, [2, 0x42, 5, 3]);
+        t.check(clear(3, MMIO_BIT), done(), &[State(12, 2)]);
+        t.check(clear(3, DMA_BIT), done(), &[State(12, 0)]);
+        t.check(clear(3, RECORD), done(), &[State(13, 0), State(14, 0)]);
+        t.check(end(7), msi(7, 0x42, 5), &[Interrupt(31, 2)]);
+        t.check(end(7), done(), &[Interrupt(31, 0)]);
+        t.check(priority(7, 255), done(), &[Interrupt(30, 255)]);
+        t.interrupts[31] = 1;
+        t.check(priority(7, 6), msi(7, 0x42, 6), &[Interrupt(30, 6), Interrupt(31, 2)]);
+        t.keeps(priority(7, 256), refuse(2, 0));
+        for number in [8, u64::MAX] {
+            t.keeps(end(number), refuse(14, 0));
+            t.keeps(priority(number, 5), refuse(14, 0));
+        }
+        t.keeps(clear(4, DMA_BIT), refuse(14, 0));
+        // What firmware released is served when the fence is clear.
+        t.check(fence_clear(), done(), &[State(FENCE_AT, fence & !FENCE)]);
+        t.check(message, held(7), &[Interrupt(31, 3)]);
+        t.keeps(load((1 << 40) + 8, 8), pass((1 << 40) + 8, 3, 0));
+    }
+}
+
+#[test]
+fn fence_in_a_list() {
+    let mut t = of_the_fence();
+    *t.fence() = 0xF0;
+    let good = dma(5, READ, by_index(1, 1, 1), 4, 0);
+    let outside = dma(5, READ, 1 << 39, 4, 0);
+    let message = dma(5, WRITE, 0xFFFF_0070, 4, 0);
+    let window = 0x1_0030_0010;
+    let served = [
+        (good, pass(0x9000, 2, 3)),
+        (fence_clear(), done()),
+        (message, msi(7, 0x42, 5)),
+        (fatal(8), refuse(3, 0)),
+        (good, pass(0x9000, 2, 3)),
+        // PE 3 is stopped and sends it all the same.
+        (fatal(6), done()),
+        (good, refuse(18, 0)),
+        (message, refuse(18, 0)),
+        (outside, refuse(18, 0)),
+        (load(window, 8), fenced_ones(u64::MAX)),
+        (store(window, 2), fenced_drop()),
+        (error(5), refuse(18, 0)),
+        (dma(5, READ, 0, 0, 0), refuse(2, 0)),
+        (end(7), done()),
+        (clear(3, MMIO_BIT), done()),
+        (fatal(5), done()),
+        (fatal(7), refuse(3, 0)),
+        (good, refuse(18, 0)),
+        (fence_clear(), done()),
+        (good, pass(0x9000, 2, 3)),
+        (load(window, 8), pass(0x8030_0010, 2, 0)),
+        (load(1 << 40, 8), pass(1 << 40, 3, 0)),
+        (dma(6, READ, 0, 4, 0), refuse(4, 0)),
+        (message, msi(7, 0x42, 5)),
+        (outside, refuse(7, 0)),
+        (fatal(5), done()),
+        (good, refuse(18, 0)),
+    ];
+    let mut changes = frozen(2, 7, 1 << 39, 0).to_vec();
+    changes.extend([State(12, 2), State(FENCE_AT, 0xF1), Interrupt(31, 2)]);
+    t.check_both_ways(&served, &changes);
+}
+
+#[test]
+fn fence_at_the_sizes() {
+    // N is 256: the fence word is word 1,024. Every PE lists all.
+    let mut t = largest();
+    t.peers.fill(u64::MAX);
+    t.check(fatal(65_535), done(), &[State(1_024, 1)]);
+    t.check(fence_clear(), done(), &[State(1_024, 0)]);
+    *t.fence() = u64::MAX - 1;
+    let mut after = vec![(255, 12, 65_535)];
+    after.extend((0..255).map(|pe| (pe, 13, 255)));
+    t.freezes(error(65_535), done(), &after);
+    t.check(fatal(0), done(), &[State(1_024, u64::MAX)]);
+    t.keeps(fatal(65_536), refuse(3, 0));
+    // N is 1: it is word 4, and the PE's own words are another matter.
+    let mut t = Tables::new(1, 0, 1, 0);
+    t.state[..4].fill(u64::MAX);
+    t.check(fatal(0), done(), &[State(4, 1)]);
+    t.keeps(load(0, 8), fenced_ones(u64::MAX));
+    t.keeps(error(0), refuse(18, 0));
+    t.check(fence_clear(), done(), &[State(4, 0)]);
+    t.keeps(load(0, 8), refuse(10, 0));
+}
+
+#[test]
+fn fence_on_tables_of_wrong_lengths() {
+    for fence in [FENCED[0], FENCED[3], UNFENCED[0], UNFENCED[3]] {
+        let mut t = largest();
+        *t.fence() = fence;
+        refuses_all("N", Tables { pes: 255, ..t.clone() });
+        t.state.push(fence);
+        refuses_all("state one long", t.clone());
+        t.state.truncate(1_024);
+        refuses_all("state without the fence word", t);
+    }
 }
 
 // ---- The geometries that Linux programs ----
@@ -1548,7 +1865,6 @@ fn list_each_after_the_last() {
         (priority(7, 255), done()),
         (clear(3, DMA_BIT), done()),
     ];
-    let (requests, answers): (Vec<RequestWords>, Vec<AnswerWords>) = served.into_iter().unzip();
     // PE 2 has the DMA bit and the last refusal's record, PE 3 the MMIO bit and its first record.
     let changes = [
         State(8, 2),
@@ -1560,14 +1876,7 @@ fn list_each_after_the_last() {
         Interrupt(30, 255),
         Interrupt(31, 2),
     ];
-    let mut one_by_one = t.clone();
-    t.check_list(&requests, &answers, &changes);
-    for (request, answer) in requests.iter().zip(&answers) {
-        let mut given = [UNWRITTEN; ANSWER_WORDS];
-        assert_eq!(one_by_one.serve(request, &mut given), 1);
-        assert_eq!(given, *answer);
-    }
-    one_by_one.check_same(&t);
+    t.check_both_ways(&served, &changes);
 }
 
 #[test]
@@ -1589,7 +1898,7 @@ fn list_lengths() {
             same("answers", &answers, &written);
             let mut after = before.clone();
             for pe in 0..whole {
-                after.state[4 * pe..4 * pe + 4].copy_from_slice(&[3, 12, pe as u64, 0]);
+                after.state[STATE_WORDS * pe..][..4].copy_from_slice(&[3, 12, pe as u64, 0]);
             }
             t.check_same(&after);
         }
@@ -1633,11 +1942,19 @@ fn words_outside_the_slices() {
     t.requesters[5] = 2;
     t.set_interrupt(7, [2, 0x42, 5, 0]);
     t.peers[8..12].fill(u64::MAX);
+    *t.fence() = 0xF0;
     let before = t.clone();
     let mut state = [&[UNWRITTEN; 8], &t.state[..], &[UNWRITTEN; 8]].concat();
     let mut interrupts = [&[UNWRITTEN; 8], &t.interrupts[..], &[UNWRITTEN; 8]].concat();
-    let mut answers = [UNWRITTEN; 40];
-    let requests = [dma(5, WRITE, 0xFFFF_0070, 4, 0), [7; 8], error(5)].concat();
+    let mut answers = [UNWRITTEN; 64];
+    let asked = [
+        dma(5, WRITE, 0xFFFF_0070, 4, 0),
+        [9; 8],
+        error(5),
+        fence_clear(),
+        fatal(5),
+        dma(5, WRITE, 0xFFFF_0070, 4, 0),
+    ];
     let count = run(
         4,
         8,
@@ -1650,16 +1967,17 @@ fn words_outside_the_slices() {
         &mut interrupts[8..40],
         &t.windows,
         &t.segments,
-        &mut state[8..24],
-        &requests,
-        &mut answers[8..32],
+        &mut state[8..25],
+        &asked.concat(),
+        &mut answers[8..56],
     );
-    assert_eq!(count, 3);
+    assert_eq!(count, 6);
     let guard = [UNWRITTEN; 8];
-    same("answers", &answers, &[guard, msi(7, 0x42, 5), refuse(2, 0), done(), guard].concat());
+    let given = [msi(7, 0x42, 5), refuse(2, 0), done(), done(), done(), refuse(18, 0)];
+    same("answers", &answers, &[&guard, &given.concat()[..], &guard].concat());
     let peer = [3, 13, 2, 0];
     let frozen = [peer, peer, [3, 12, 5, 0], peer].concat();
-    same("state", &state, &[&guard, &frozen[..], &guard].concat());
+    same("state", &state, &[&guard, &frozen[..], &[0xF1], &guard].concat());
     t.interrupts[31] = 2;
     same("interrupts", &interrupts, &[&guard, &t.interrupts[..], &guard].concat());
     t.interrupts[31] = 0;
@@ -1669,10 +1987,12 @@ fn words_outside_the_slices() {
 // ---- Words that name no request ----
 
 /// Each is one word off a request that would freeze, write or pass.
-fn unnamed() -> [RequestWords; 14] {
+fn unnamed() -> [RequestWords; 16] {
     [
-        [7, 5, 0, 0, 0, 0, 0, 0],
-        [8, 5, 0, 0, 0, 0, 0, 0],
+        [9, 5, 0, 0, 0, 0, 0, 0],
+        [10, 5, 0, 0, 0, 0, 0, 0],
+        [(1 << 32) + FATAL, 5, 0, 0, 0, 0, 0, 0],
+        [(1 << 32) + FENCE_CLEAR, 0, 0, 0, 0, 0, 0, 0],
         [(1 << 32) + ERROR, 5, 0, 0, 0, 0, 0, 0],
         [u64::MAX; 8],
         dma(5, 2, 0x3ABC, 4, 0),
@@ -1694,17 +2014,21 @@ fn words_that_name_no_request() {
     t.set_word(0x2018, 0x1234_5003);
     t.set_interrupt(7, [2, 0x42, 5, 0]);
     t.state[8] = 4;
-    t.check_list(&unnamed(), &[refuse(2, 0); 14], &[]);
+    t.check_list(&unnamed(), &[refuse(2, 0); 16], &[]);
     for request in unnamed() {
         t.keeps(request, refuse(2, 0));
     }
+    // Also on a bridge that is fenced.
+    let mut fenced = t.clone();
+    *fenced.fence() = 5;
+    fenced.check_list(&unnamed(), &[refuse(2, 0); 16], &[]);
     // 1 comes first.
     let mut short = t.clone();
     short.state.pop();
-    short.check_list(&unnamed(), &[refuse(1, 0); 14], &[]);
+    short.check_list(&unnamed(), &[refuse(1, 0); 16], &[]);
     // Also while the PE is stopped, and between other requests.
     t.check_list(
-        &[error(5), dma(5, 2, 0x3ABC, 4, 0), clear(2, DMA_BIT), clear(2, 3), [7; 8]],
+        &[error(5), dma(5, 2, 0x3ABC, 4, 0), clear(2, DMA_BIT), clear(2, 3), [9; 8]],
         &[done(), refuse(2, 0), done(), refuse(2, 0), refuse(2, 0)],
         &[State(8, 5), State(9, 12), State(10, 5)],
     );
@@ -1723,6 +2047,7 @@ fn words_that_are_not_read() {
         (clear(2, RECORD), 3, done()),
         (end(7), 2, done()),
         (priority(7, 5), 3, done()),
+        (fence_clear(), 1, done()),
     ];
     for (mut request, used, answer) in served {
         request[used..].fill(u64::MAX);
@@ -1731,4 +2056,7 @@ fn words_that_are_not_read() {
     let mut request = error(5);
     request[2..].fill(u64::MAX);
     t.freezes(request, done(), &[(2, 12, 5)]);
+    let mut request = fatal(5);
+    request[2..].fill(u64::MAX);
+    t.check(request, done(), &[State(FENCE_AT, FENCE)]);
 }

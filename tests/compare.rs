@@ -51,12 +51,13 @@ impl Asked {
 
 /// How often each answer and each reason came, how often a peer was served after a refusal had
 /// frozen a PE that lists it, how often a walk stopped at a word of each kind, how often a freeze
-/// wrote over a word left over in an empty record, and how DMAs stood to the installed size.
+/// wrote over a word left over in an empty record, how DMAs stood to the installed size, and what the
+/// fence did.
 #[derive(Default)]
 struct Counts {
     requests: u64,
     names: [u64; 7],
-    reasons: [u64; 18],
+    reasons: [u64; 19],
     peers: u64,
     stopped_at: [u64; 4],
     left_over: u64,
@@ -71,6 +72,7 @@ struct Counts {
     last_of_all: u64,
     /// Reason 8 for a direction, where the other one would be 17.
     forbidden_above: u64,
+    fence: FenceCounts,
 }
 
 /// The page codes, in the order of `above_in`.
@@ -118,8 +120,8 @@ impl Counts {
     }
 
     /// The least of these counts; 12 and 13 are in records only.
-    fn least(&self) -> u64 {
-        let refused = (1..=11).chain([14, 15, 17]).map(|reason| self.reasons[reason]);
+    fn least(&self, of_text: bool) -> u64 {
+        let refused = (1..=11).chain([14, 15, 17, 18]).map(|reason| self.reasons[reason]);
         let by_kind = self.stopped_at.into_iter().chain(self.above_after).chain(self.above_in);
         let others = [
             self.peers,
@@ -128,17 +130,140 @@ impl Counts {
             self.first_above,
             self.last_of_all,
             self.forbidden_above,
+            self.fence.least(of_text),
         ];
         self.names.into_iter().chain(refused).chain(by_kind).chain(others).min().unwrap_or(0)
     }
 }
 
+/// How often the fence did each thing that it does, and how often it left all as it was.
+#[derive(Default)]
+struct FenceCounts {
+    /// Reason 18 of a DMA, an MSI, an error message, a load and a store.
+    refused: [u64; 5],
+    /// Reason 18 in the place of each reason of `AFTER_FENCED`.
+    before: [u64; 4],
+    /// On a fenced bridge: a DMA, load or store that is 2, and a firmware request that is obeyed.
+    badly_formed: u64,
+    firmware: u64,
+    /// An error message of a PE that lists PE N, which leaves the fence word as it is.
+    lists_n: u64,
+    /// A fatal message that is obeyed where the fence is clear, and where it is set; one of a stopped
+    /// PE that is obeyed; and one that is 3.
+    fatal: [u64; 2],
+    fatal_stopped: u64,
+    fatal_unknown: u64,
+    /// A fence clear where the fence is clear, and where it is set.
+    clear: [u64; 2],
+    /// Other bits of the fence word that stay where the fence is set, and where it is cleared.
+    other_bits: [u64; 2],
+}
+
+/// The reasons that 18 comes before, in the order of `before`.
+const AFTER_FENCED: [u64; 4] =
+    [REASON_UNKNOWN_REQUESTER, REASON_DMA_STOPPED, REASON_NO_WINDOW, REASON_MMIO_STOPPED];
+
+impl FenceCounts {
+    /// A request that was answered; the fence word was `before`.
+    fn add(&mut self, tables: &mut Bridge, before: u64, request: Request, answer: &AnswerWords) {
+        let fenced = usize::from(before & FENCE != 0);
+        let same = before == fence_word(tables);
+        match (request, answer[AT_NAME], answer[AT_REASON]) {
+            (_, _, REASON_FENCED) => {
+                self.refused[kind_refused(request)] += 1;
+                let reason = unfenced_reason(tables, request);
+                if let Some(place) = AFTER_FENCED.iter().position(|&after| after == reason) {
+                    self.before[place] += 1;
+                }
+            }
+            (Request::Fatal { requester }, DONE, _) => {
+                let pe = u64::from(tables.requesters[requester as usize]);
+                self.fatal[fenced] += 1;
+                self.fatal_stopped += u64::from(stop_word(tables, pe) & 3 != 0);
+                self.other_bits[0] += u64::from(!same && before != 0);
+            }
+            (Request::Fatal { .. }, _, REASON_UNKNOWN_REQUESTER) => self.fatal_unknown += 1,
+            (Request::FenceClear, DONE, _) => {
+                self.clear[fenced] += 1;
+                self.other_bits[1] += u64::from(!same && before != FENCE);
+            }
+            (Request::Error { requester }, DONE, _) => {
+                let pe = u64::from(tables.requesters[requester as usize]);
+                self.lists_n += u64::from(same && lists(tables, pe, tables.n));
+            }
+            (
+                Request::Dma { .. } | Request::Load { .. } | Request::Store { .. },
+                _,
+                REASON_BAD_REQUEST,
+            ) => self.badly_formed += fenced as u64,
+            (
+                Request::Clear { .. } | Request::End { .. } | Request::Priority { .. },
+                DONE | MSI | HELD,
+                _,
+            ) => self.firmware += fenced as u64,
+            _ => {}
+        }
+    }
+
+    /// The least of these counts; a text has no fatal message and no fence clear.
+    fn least(&self, of_text: bool) -> u64 {
+        let others = [self.badly_formed, self.firmware, self.lists_n];
+        let of_both = self.refused.into_iter().chain(self.before).chain(others);
+        let fatal = self.fatal.into_iter().chain([self.fatal_stopped, self.fatal_unknown]);
+        let in_no_text = fatal.chain(self.clear).chain(self.other_bits);
+        of_both.chain(in_no_text.filter(|_| !of_text)).min().unwrap_or(0)
+    }
+
+    fn told(&self, of_text: bool) -> String {
+        let mut told = format!(
+            "18 of a DMA, an MSI, an error message, a load and a store ({:?}), before 3, 4, 10 and 11 \
+             ({:?}), and after 2 ({}); firmware obeyed on a fenced bridge ({}); a fence word that an \
+             error message leaves, of a PE that lists PE N ({})",
+            self.refused, self.before, self.badly_formed, self.firmware, self.lists_n
+        );
+        if !of_text {
+            told += &format!(
+                "; a fatal message obeyed without a fence and with one ({:?}), of a stopped PE ({}), \
+                 and one that is 3 ({}); a fence clear without a fence and with one ({:?}); other bits \
+                 of the fence word that stay when the fence is set and cleared ({:?})",
+                self.fatal, self.fatal_stopped, self.fatal_unknown, self.clear, self.other_bits
+            );
+        }
+        told
+    }
+}
+
+/// The place in `refused` of a request that was 18.
+fn kind_refused(request: Request) -> usize {
+    match request {
+        Request::Dma { address, .. } => usize::from(is_msi(address)),
+        Request::Error { .. } => 2,
+        Request::Load { .. } => 3,
+        Request::Store { .. } => 4,
+        _ => panic!("18 to {:x?}", request),
+    }
+}
+
+fn is_msi(address: u64) -> bool {
+    address >> 60 == 1 || (0xFFFF_0000..=0xFFFF_FFFF).contains(&address)
+}
+
+/// The reason of a request if the fence were clear. The tables stay as they are.
+fn unfenced_reason(tables: &mut Bridge, request: Request) -> u64 {
+    let (state, interrupts) = (tables.state.clone(), tables.interrupts.clone());
+    tables.handle(Request::FenceClear);
+    let answer = tables.handle(request);
+    tables.state = state;
+    tables.interrupts = interrupts;
+    answer.reason
+}
+
 /// The last byte that a DMA reaches in the system where its record and its table words allow it,
-/// whatever is installed and whoever is stopped. The tables stay as they are.
+/// whatever is installed, whoever is stopped, fenced or not. The tables stay as they are.
 fn last_byte(tables: &mut Bridge, request: Request) -> Option<u64> {
     let Request::Dma { address, length, .. } = request else { return None };
     // An MSI would change an interrupt.
-    if address >> 60 != 0 || (0xFFFF_0000..=0xFFFF_FFFF).contains(&address) {
+    if address >> 60 != 0 || is_msi(address) {
         return None;
     }
     let nobody_stopped = vec![0; tables.state.len()];
@@ -166,7 +291,7 @@ struct Pair {
 impl Pair {
     /// Both answer one request.
     fn ask(&mut self, asked: &Asked, counts: &mut Counts) -> Result<AnswerWords, String> {
-        let before = left_over(&self.plain);
+        let (before, fence) = (left_over(&self.plain), fence_word(&self.plain));
         let wanted = answer_words(self.plain.handle(asked.request));
         let mut answers = [UNWRITTEN; ANSWER_WORDS + 1];
         let count = run_proved(&mut self.proved, &asked.words, &mut answers);
@@ -197,6 +322,7 @@ impl Pair {
             counts.left_over += before - left_over(&self.plain);
         }
         counts.add_range(&mut self.plain, asked.request, &wanted);
+        counts.fence.add(&mut self.plain, fence, asked.request, &wanted);
         Ok(wanted)
     }
 
@@ -209,13 +335,12 @@ impl Pair {
     /// 1 where this answer is the first pass of a spared peer.
     fn peer_served(&mut self, request: Request, answer: &AnswerWords) -> u64 {
         let (t, spared) = (&self.plain, &mut self.spared);
-        let runs = |pe: u64| word(&t.state, 4, pe, 0) & 3 == 0;
+        let runs = |pe: u64| stop_word(t, pe) & 3 == 0;
         spared.retain(|&pe| runs(pe));
         match (request, answer[0], answer[1]) {
             (Request::Dma { requester, .. }, REFUSE, 5..=9 | 15 | 17) => {
                 let failing = u64::from(t.requesters[requester as usize]);
-                let listed = |pe| word(&t.peers, 4, failing, pe / 64) >> (pe % 64) & 1 == 1;
-                spared.extend((0..t.n).filter(|&pe| listed(pe) && runs(pe)));
+                spared.extend((0..t.n).filter(|&pe| lists(t, failing, pe) && runs(pe)));
                 0
             }
             (_, PASS, _) => {
@@ -290,7 +415,23 @@ fn stopped_at(tables: &Bridge, request: Request, answer: &AnswerWords) -> Option
 
 /// The PEs with a word left over in an empty error record.
 fn left_over(tables: &Bridge) -> u64 {
-    tables.state.chunks_exact(4).filter(|words| words[1] == 0 && words[3] != 0).count() as u64
+    let of_pes = tables.state.chunks_exact(STATE_WORDS);
+    of_pes.filter(|words| words[1] == 0 && words[3] != 0).count() as u64
+}
+
+/// The stop word of a PE; 0 if the state has none.
+fn stop_word(tables: &Bridge, pe: u64) -> u64 {
+    word(&tables.state, STATE_WORDS as u64, pe, 0)
+}
+
+/// The fence word, after the words of N PEs; 0 if the state has none.
+fn fence_word(tables: &Bridge) -> u64 {
+    stop_word(tables, tables.n)
+}
+
+/// Whether the bit of a number below 256 is set in the peer vector of a PE.
+fn lists(tables: &Bridge, pe: u64, number: u64) -> bool {
+    number < MOST_PES && word(&tables.peers, 4, pe, number / 64) >> (number % 64) & 1 == 1
 }
 
 fn same<T: PartialEq + LowerHex>(name: &str, proved: &[T], plain: &[T]) -> Result<(), String> {
@@ -433,6 +574,10 @@ impl Generator {
                 *word &= random.next() & random.next() & random.next();
             }
         }
+        // PE N is not there, and many list it.
+        for vector in t.peers.chunks_mut(4).filter(|_| n < MOST_PES) {
+            vector[n as usize / 64] |= random.below(2) << (n % 64);
+        }
         for record in t.interrupts.chunks_mut(4) {
             record.copy_from_slice(&interrupt(random, n));
         }
@@ -443,13 +588,16 @@ impl Generator {
         for pe in &mut t.segments {
             *pe = random.mostly_below(n) as u16;
         }
-        for words in t.state.chunks_mut(4) {
+        for words in t.state.chunks_exact_mut(STATE_WORDS) {
             words[0] = random.next() & !3;
             if random.percent(20) {
                 words.fill_with(|| random.any());
-                words[1] = random.pick(&[0, words[1], words[1] % 18]);
+                words[1] = random.pick(&[0, words[1], words[1] % 19]);
             }
         }
+        // Mostly with bits above the fence.
+        t.state[bridge::fence_place(n)] =
+            random.next() & random.pick(&[0, !FENCE, !FENCE, u64::MAX]);
     }
 
     /// One number or length off its rule; the kinds are counted from 0.
@@ -529,17 +677,21 @@ impl Generator {
 
     /// A PE whose stop bit is set is mostly released first.
     fn release(&mut self, pe: u64, part: Part) -> Option<Asked> {
-        let bit = if part == Part::Dma { 2 } else { 1 };
-        if word(&self.pair.plain.state, 4, pe, 0) & bit != 0 && self.random.percent(80) {
+        let bit = if part == Part::Dma { DMA_STOP } else { MMIO_STOP };
+        if stop_word(&self.pair.plain, pe) & bit != 0 && self.random.percent(80) {
             return Some(Asked::of(Request::Clear { pe, part }));
         }
         None
     }
 
-    /// The next requests: one, or two where a PE is released first.
+    /// The next requests: one, or more where a PE is released first or the fence is cleared. A fence
+    /// stands for a few requests.
     fn requests(&mut self) -> Vec<Asked> {
         let mut all = Vec::new();
-        let mut asked = match self.random.below(20) {
+        if fence_word(&self.pair.plain) & FENCE != 0 && self.random.percent(20) {
+            all.push(Asked::of(Request::FenceClear));
+        }
+        let mut asked = match self.random.below(22) {
             0..=7 => {
                 let requester = self.requester();
                 let pe = self.pe_of(requester);
@@ -561,6 +713,8 @@ impl Generator {
                 let priority = self.random.pick(&[0, 5, 254, 255, 255, 256, u64::MAX]);
                 Asked::of(Request::Priority { interrupt: self.interrupt(), priority })
             }
+            19 => Asked::of(Request::Fatal { requester: self.requester() }),
+            20 => Asked::of(Request::FenceClear),
             _ => self.no_request(),
         };
         // The last two words of a request are not read.
@@ -660,7 +814,7 @@ impl Generator {
     fn no_request(&mut self) -> Asked {
         let random = &mut self.random;
         let (kind, place, least) = match random.below(4) {
-            0 => (7, 0, 7),
+            0 => (FENCE_CLEAR + 1, 0, FENCE_CLEAR + 1),
             1 => (DMA, 2, 2),
             2 => (DMA, 5, 1 << 32),
             _ => (CLEAR, 2, 3),
@@ -793,13 +947,14 @@ fn compare_bridge(seed: u64, number: u64, counts: &mut Counts) -> Result<(), Str
         .map_err(|difference| format!("bridge {}, {}", number, difference))
 }
 
-/// Some DMAs, each under installed sizes next to its last byte and far from it. Its PE is released
-/// before each.
+/// Some DMAs, each under installed sizes next to its last byte and far from it. The fence is cleared
+/// before all, and the PE released before each.
 fn compare_sizes(
     generator: &mut Generator,
     dmas: usize,
     counts: &mut Counts,
 ) -> Result<(), String> {
+    generator.pair.ask(&Asked::of(Request::FenceClear), counts)?;
     for _ in 0..dmas {
         let (asked, last) = generator.dma_in_reach();
         let pe = generator.pe_of(asked.words[1]);
@@ -843,15 +998,17 @@ fn compare(generate: &str, seeds: u64, lines: u64) -> Result<(), String> {
             compare_bridge(seed, number, &mut tables).map_err(of_seed)?;
         }
     }
-    for (name, counts) in [("replay text", text), ("tables beyond it", tables)] {
-        let least = counts.least();
+    for (name, counts, of_text) in
+        [("replay text", text, true), ("tables beyond it", tables, false)]
+    {
+        let least = counts.least(of_text);
         println!(
             "{}: {} inputs, {} requests, no difference; {} times or more: every answer and reason, a \
              peer served after a refusal ({}), a walk that stops at an upper word that is not valid \
              ({}) or leads to a misaligned table ({}), at a last word ({}), at a missing word ({}), a \
              word left over in an empty record ({}); 17 in a bypass and after 1, 2 and more words \
              ({:?}), in pages of 4 KiB to 256 MiB ({:?}), at the first byte not installed ({}) and at \
-             byte 2^64 - 1 ({}); a pass to the last installed byte ({}), and 8 before 17 ({})",
+             byte 2^64 - 1 ({}); a pass to the last installed byte ({}), and 8 before 17 ({}); {}",
             name,
             seeds,
             counts.requests,
@@ -867,7 +1024,8 @@ fn compare(generate: &str, seeds: u64, lines: u64) -> Result<(), String> {
             counts.first_above,
             counts.last_of_all,
             counts.last_installed,
-            counts.forbidden_above
+            counts.forbidden_above,
+            counts.fence.told(of_text)
         );
         if least < 100 {
             return Err(format!("{}: one of these came {} times, not 100", name, least));

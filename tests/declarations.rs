@@ -200,12 +200,13 @@ fn clauses(file: &str, function: &str, prefix: &str, suffix: &str) -> Numbers {
     clauses.collect()
 }
 
-/// The numbers as the crates have them. The two bits of a stop word have no name there: tests/host.c
-/// and tests/host.rs look at what a freeze and a clear leave.
+/// The numbers as the crates have them. The two bits of a stop word and the fence have no name there:
+/// tests/host.c and tests/host.rs look at what a freeze, a clear and a fatal message leave.
 fn defined(run: &Function) -> Numbers {
     const ANSWER: &str = "crates/kinds/specs/Answer.antt";
     const LAYOUT: &str = "crates/request_words/specs/Layout.antt";
-    let mut all = Numbers::from([("MMIO_STOP".to_string(), 1), ("DMA_STOP".to_string(), 2)]);
+    let bits = [("MMIO_STOP", 1), ("DMA_STOP", 2), ("FENCE", 1)];
+    let mut all = Numbers::from(bits.map(|(name, bit)| (name.to_string(), bit)));
     all.extend(clauses(LAYOUT, "encoded ", "", ""));
     all.extend(clauses(LAYOUT, "directionNumber ", "", ""));
     all.extend(clauses(LAYOUT, "partNumber ", "", "_BIT"));

@@ -4,13 +4,15 @@
 //
 // Writes about LINES lines to standard output; the same seed gives the same bytes
 // on every machine. The input is a series of bridges: of each a size line, good tables
-// for several PEs, then requests on them mixed with changes of the tables and damaged lines.
+// for several PEs, then requests on them mixed with changes of the tables and damaged lines. A fence
+// is cleared again after a few requests.
 
 mod random;
 
 use random::Random;
 use std::env;
 use std::io::{self, BufWriter, Write};
+use std::mem;
 use std::process;
 
 const TABLES: [&str; 8] =
@@ -28,6 +30,9 @@ const MAX: u64 = u64::MAX;
 const PAGE_CODES: [u64; 4] = [1, 5, 13, 17];
 /// Bit 59 picks the second record of a PE.
 const SECOND: u64 = 1 << 59;
+/// State words of each PE. The fence word comes after those of all PEs; bit 0 of it is the fence.
+const STATE_WORDS: u64 = 4;
+const FENCE: u64 = 1;
 /// The installed size of the replay program: 4 GiB, a multiple of every page size.
 const INSTALLED: u64 = 1 << 32;
 
@@ -269,7 +274,7 @@ impl Generator {
         self.m = m;
         self.r = r;
         self.words = words;
-        let lengths = [r, 8 * n, words, 4 * n, 4 * m, 67, 256, 4 * n];
+        let lengths = [r, 8 * n, words, 4 * n, 4 * m, 67, 256, STATE_WORDS * n + 1];
         self.tables = lengths.iter().map(|&length| vec![0; length as usize]).collect();
         self.known.clear();
         self.stopped = 0;
@@ -312,14 +317,15 @@ impl Generator {
             }
         }
         if self.random.percent(30) {
-            // Bits above the stop bits, and error records.
+            // Bits above the stop bits and above the fence, and error records.
             for pe in 0..self.n {
                 let stop = self.random.next() & !3 | self.random.pick(&[0, 0, 0, 1, 2, 3]);
-                self.set(STATE, 4 * pe, stop);
+                self.set(STATE, STATE_WORDS * pe, stop);
                 if self.random.percent(50) {
                     self.build_error_record(pe);
                 }
             }
+            self.set_fence(0);
         }
     }
 
@@ -621,13 +627,23 @@ impl Generator {
         let reason = match self.random.below(8) {
             0..=3 => 0,
             4 => self.random.pick(&[99, MAX]),
-            _ => self.random.between(1, 17),
+            _ => self.random.between(1, 18),
         };
         let value = self.random.any();
         let word = self.random.pick(&[0, 8, 0x2FF8, MAX - 7, MAX]);
         for (place, word) in (1..).zip([reason, value, word]) {
-            self.set(STATE, 4 * pe + place, word);
+            self.set(STATE, STATE_WORDS * pe + place, word);
         }
+    }
+
+    /// Sets the fence word: the fence set or clear, and any other bits.
+    fn set_fence(&mut self, fence: u64) {
+        let others = match self.random.below(4) {
+            0 => MAX,
+            1 => self.random.next(),
+            _ => 0,
+        };
+        self.set(STATE, STATE_WORDS * self.n, others & !FENCE | fence)
     }
 
     /// A good interrupt, or one with a word off its limits.
@@ -757,7 +773,7 @@ impl Generator {
     // ---- Requests ----
 
     fn step(&mut self) {
-        let weights = [300, 60, 40, 40, 40, 40, 30, 170, 190, 20, 70, 80, 40, 50, 50, 4, 1];
+        let weights = [300, 60, 40, 40, 40, 40, 30, 170, 190, 20, 70, 80, 40, 50, 50, 4, 15, 1];
         match self.random.weighted(&weights) {
             0 => self.ask_dma(),
             1 => self.ask_dma_edge(),
@@ -787,17 +803,55 @@ impl Generator {
                 let line = self.size_off_limits();
                 self.put_text(line)
             }
-            // The same size again: everything is 0 from here.
-            _ => {
-                let (n, m, r, words) = (self.n, self.m, self.r, self.words);
-                self.put_size(n, m, r, words);
-                for _ in 0..self.random.below(20) {
-                    let line = self.any_request();
-                    self.put_text(line);
+            16 => self.ask_fenced(),
+            _ => self.size_again(),
+        }
+    }
+
+    /// The same size again: everything is 0 from here.
+    fn size_again(&mut self) {
+        let (n, m, r, words) = (self.n, self.m, self.r, self.words);
+        self.put_size(n, m, r, words);
+        for _ in 0..self.random.below(20) {
+            let line = self.any_request();
+            self.put_text(line);
+        }
+        self.build()
+    }
+
+    /// Requests of every kind while the fence is set, and often a PE is stopped. Rarely a size line
+    /// clears it.
+    fn ask_fenced(&mut self) {
+        let pe = self.some_pe();
+        if self.random.percent(60) {
+            self.set(STATE, STATE_WORDS * pe, 3);
+        }
+        self.set_fence(FENCE);
+        // Stopped PEs are not released before their requests.
+        let stopped = mem::take(&mut self.stopped);
+        for _ in 0..self.random.between(2, 9) {
+            match self.random.below(10) {
+                0 => self.ask_dma(),
+                1 => {
+                    let address = self.known_address().map_or(0, |known| known.address);
+                    self.put_dma(pe, address)
                 }
-                self.build()
+                2 => self.ask_length(),
+                3 => self.ask_requester(),
+                4 => self.ask_msi(),
+                5 | 6 => self.ask_window(),
+                7 => self.ask_error(),
+                _ => {
+                    let line = self.any_request();
+                    self.put_text(line)
+                }
             }
         }
+        if self.random.percent(2) {
+            return self.size_again();
+        }
+        self.stopped = stopped | 1 << pe;
+        self.set_fence(0)
     }
 
     /// A requester of this PE, if there is one.
@@ -1290,7 +1344,7 @@ impl Generator {
         }
         if self.random.percent(40) {
             let stop = self.random.pick(&[0, 0, 0, 0, 0, 1, 2, 4, MAX - 3]);
-            return self.set(STATE, 4 * pe, stop);
+            return self.set(STATE, STATE_WORDS * pe, stop);
         }
         if self.random.percent(90) {
             let line = self.clear_line(pe, "dma");
@@ -1386,7 +1440,7 @@ impl Generator {
                 self.build_error_record(pe)
             }
             _ => {
-                let at = self.random.below(4 * self.n);
+                let at = self.random.below(STATE_WORDS * self.n);
                 let word = self.random.pick(&[0, 1, 2, 3, 4, MAX]);
                 self.set(STATE, at, word)
             }

@@ -74,8 +74,26 @@ static const uint64_t requests[][CELLTIMBER_REQUEST_WORDS] = {
     /* an error message freezes PE 1; its peer, PE 2, has a record already */
     {CELLTIMBER_ERROR, 6, 0, 0, 0, 0, 0, 0},
     {CELLTIMBER_CLEAR, 1, CELLTIMBER_MMIO_BIT, 0, 0, 0, 0, 0},
+    /* a fence clear without a fence, and a fatal message of an unknown requester; one of PE 1, whose DMA bit is set, fences the bridge */
+    {CELLTIMBER_FENCE_CLEAR, 1, 2, 3, 4, 5, 6, 7},
+    {CELLTIMBER_FATAL, 7, 0, 0, 0, 0, 0, 0},
+    {CELLTIMBER_FATAL, 6, 1, 2, 3, 4, 5, 6},
+    {CELLTIMBER_DMA, 5, CELLTIMBER_READ, 0x3ABC, 4, 0, 0, 0},
+    {CELLTIMBER_DMA, 7, CELLTIMBER_READ, 0x3ABC, 4, 0, 0, 0},
+    {CELLTIMBER_DMA, 5, CELLTIMBER_READ, 0x3ABC, 0, 0, 0, 0},
+    {CELLTIMBER_DMA, 5, CELLTIMBER_WRITE, 0xFFFF0070, 4, 0, 0, 0},
+    {CELLTIMBER_LOAD, 0x100300010, 4, 0, 0, 0, 0, 0},
+    {CELLTIMBER_LOAD, 0, 8, 0, 0, 0, 0, 0},
+    {CELLTIMBER_STORE, 0x10000000008, 8, 0, 0, 0, 0, 0},
+    {CELLTIMBER_ERROR, 5, 0, 0, 0, 0, 0, 0},
+    {CELLTIMBER_PRIORITY, 7, 5, 0, 0, 0, 0, 0},
+    {CELLTIMBER_FATAL, 5, 0, 0, 0, 0, 0, 0},
+    /* the fence is cleared, and set again at the end */
+    {CELLTIMBER_FENCE_CLEAR, 0, 0, 0, 0, 0, 0, 0},
+    {CELLTIMBER_LOAD, 0x100300010, 4, 0, 0, 0, 0, 0},
+    {CELLTIMBER_FATAL, 0, 0, 0, 0, 0, 0, 0},
     /* words that name no request */
-    {CELLTIMBER_PRIORITY + 1, 5, 0, 0, 0, 0, 0, 0},
+    {CELLTIMBER_FENCE_CLEAR + 1, 5, 0, 0, 0, 0, 0, 0},
     {CELLTIMBER_UNNAMED, 0, 0, 0, 0, 0, 0, 0},
     {CELLTIMBER_DMA, 5, CELLTIMBER_WRITE + 1, 0x3ABC, 4, 0, 0, 0},
     {CELLTIMBER_DMA, 5, CELLTIMBER_READ, 0x3ABC, 4, 0x100000000, 0, 0},
@@ -101,7 +119,7 @@ struct lent {
     uint64_t guard_6[GUARD];
     uint16_t segments[CELLTIMBER_SEGMENT_COUNT];
     uint64_t guard_7[GUARD];
-    uint64_t state[CELLTIMBER_STATE_WORDS * PES];
+    uint64_t state[CELLTIMBER_STATE_WORDS * PES + CELLTIMBER_FENCE_WORDS];
     uint64_t guard_8[GUARD];
     uint64_t requests[CELLTIMBER_REQUEST_WORDS * COUNT];
     uint64_t guard_9[GUARD];
@@ -161,6 +179,7 @@ static void start(void)
     put(&lent.windows[CELLTIMBER_M32_WORDS + CELLTIMBER_M64_WORDS], 0x20000000000, 0x10000000, 2, 9);
     lent.segments[3] = 1;
     lent.state[3 * CELLTIMBER_STATE_WORDS] = 0xF0;
+    lent.state[PES * CELLTIMBER_STATE_WORDS] = 0xE0;
     memcpy(lent.requests, requests, sizeof requests);
 }
 
@@ -227,6 +246,8 @@ static void kinds(void)
         fail("the error record of PE 3, whose table is past memory");
     if (above[0] != CELLTIMBER_REASON_ABOVE_INSTALLED || above[1] != 0x3ABC || above[2] != 0)
         fail("the error record of PE 2, which asked for a byte that is not installed");
+    if (lent.state[PES * CELLTIMBER_STATE_WORDS] != (0xE0 | CELLTIMBER_FENCE))
+        fail("the fence word, which a fatal message has set");
     after = lent;
     start();
     if (run(0, LENGTH(lent.requests), LENGTH(lent.answers)) != COUNT || memcmp(&after, &lent, sizeof lent) != 0)
@@ -330,7 +351,7 @@ static void groups(void)
             size_t first = table == CELLTIMBER_TABLE_MEMORY ? 0x3E0 : 0;
             uint64_t seen = 0;
             for (index = 0; index < 64; index++)
-                seen |= celltimber_seen(lent.interrupts, LENGTH(lent.interrupts), lent.marks, LENGTH(lent.marks), lent.group, LENGTH(lent.group), table,
+                seen |= celltimber_seen(PES, lent.interrupts, LENGTH(lent.interrupts), lent.marks, LENGTH(lent.marks), lent.group, LENGTH(lent.group), table,
                             first + index)
                     << index;
             printf(" %" PRIx64, seen);

@@ -75,8 +75,27 @@ fn requests() -> Vec<RequestWords> {
         // an error message freezes PE 1; its peer, PE 2, has a record already
         error(6),
         clear(1, MMIO_BIT),
+        // a fence clear without a fence, and a fatal message of an unknown requester; one of PE 1,
+        // whose DMA bit is set, fences the bridge
+        [FENCE_CLEAR, 1, 2, 3, 4, 5, 6, 7],
+        fatal(7),
+        [FATAL, 6, 1, 2, 3, 4, 5, 6],
+        dma(5, READ, 0x3ABC, 4, 0),
+        dma(7, READ, 0x3ABC, 4, 0),
+        dma(5, READ, 0x3ABC, 0, 0),
+        dma(5, WRITE, 0xFFFF_0070, 4, 0),
+        load(0x1_0030_0010, 4),
+        load(0, 8),
+        store((1 << 40) + 8, 8),
+        error(5),
+        priority(7, 5),
+        fatal(5),
+        // the fence is cleared, and set again at the end
+        fence_clear(),
+        load(0x1_0030_0010, 4),
+        fatal(0),
         // words that name no request
-        [PRIORITY + 1, 5, 0, 0, 0, 0, 0, 0],
+        [FENCE_CLEAR + 1, 5, 0, 0, 0, 0, 0, 0],
         [UNNAMED, 0, 0, 0, 0, 0, 0, 0],
         dma(5, WRITE + 1, 0x3ABC, 4, 0),
         dma(5, READ, 0x3ABC, 4, 1 << 32),
@@ -120,7 +139,7 @@ impl Tables {
             interrupts: vec![0; INTERRUPT_WORDS * INTERRUPTS],
             windows: vec![0; WINDOW_WORDS],
             segments: vec![0; SEGMENT_COUNT],
-            state: vec![0; STATE_WORDS * PES],
+            state: vec![0; STATE_WORDS * PES + FENCE_WORDS],
             cut: [0; 8],
         };
         put(&mut t.entries[ENTRY_WORDS..], &[0x2000, 2, 1, 1]);
@@ -139,6 +158,7 @@ impl Tables {
         put(&mut t.windows[M32_WORDS + M64_WORDS..], &[1 << 41, 1 << 28, 2, 9]);
         t.segments[3] = 1;
         t.state[3 * STATE_WORDS] = 0xF0;
+        t.state[PES * STATE_WORDS] = 0xE0;
         t
     }
 
@@ -182,8 +202,10 @@ fn kinds() {
     }
     // PE 0 is frozen, and the MMIO bit of PE 1 is cleared.
     assert_eq!([t.state[0], t.state[STATE_WORDS]], [MMIO_STOP | DMA_STOP, DMA_STOP]);
-    // The last words are PE 3's error record: its table is past memory.
-    assert_eq!(t.state[3 * STATE_WORDS + 1..], [REASON_OUTSIDE_MEMORY, 0, 0x8000]);
+    // PE 3's table is past memory. After its error record comes the fence word: a fatal message has
+    // set the fence.
+    let last = [REASON_OUTSIDE_MEMORY, 0, 0x8000, 0xE0 | FENCE];
+    assert_eq!(t.state[3 * STATE_WORDS + 1..], last);
     // PE 2 asked for a byte that is not installed.
     let above = &t.state[2 * STATE_WORDS + 1..3 * STATE_WORDS];
     assert_eq!(above, [REASON_ABOVE_INSTALLED, 0x3ABC, 0]);
@@ -281,8 +303,8 @@ fn groups() {
         print("members", &numbers.map(|number| u64::from(member(&group, number))));
         let words = [0, 1, 2, 3, 4, 5, 6, 7].map(|table| {
             let first: usize = if table == TABLE_MEMORY { 0x3E0 } else { 0 };
-            let bit = |k| u64::from(seen(&t.interrupts, &marks, &group, table, first + k)) << k;
-            (0..64).fold(0, |words, k| words | bit(k))
+            let told = |k| seen(PES as u64, &t.interrupts, &marks, &group, table, first + k);
+            (0..64).fold(0, |words, k| words | u64::from(told(k)) << k)
         });
         print("seen", &words);
     }

@@ -59,6 +59,13 @@ fn owners_on_whole_tables() {
         (error(5), 2),
         (error(0), NOBODY),
         (error(0x1_0005), NOBODY),
+        (fatal(5), 2),
+        (fatal(6), 0),
+        (fatal(0), NOBODY),
+        (fatal(7), NOBODY),
+        (fatal(0x1_0005), NOBODY),
+        (fence_clear(), NOBODY),
+        ([FENCE_CLEAR, 5, 0, 0, 0, 0, 0, 0], NOBODY),
         (load(M32 + 0x30_0010, 4), 1),
         (store(M32 + 0x30_0010, 3), 1),
         (load(WHOLE, 8), 3),
@@ -76,7 +83,7 @@ fn owners_on_whole_tables() {
     // N of 256 is the limit, and above it all is nobody's.
     t.requesters[0] = 255;
     let sized = |n| OwnerTables { n, ..OwnerTables::of(&t) };
-    check_owners(&sized(256), &[(error(0), 255), (clear(255, MMIO_BIT), 255)]);
+    check_owners(&sized(256), &[(error(0), 255), (fatal(0), 255), (clear(255, MMIO_BIT), 255)]);
     for n in [0, 257, (1 << 16) + 4, u64::MAX] {
         check_owners(&sized(n), &owners.map(|(request, _)| (request, NOBODY)));
     }
@@ -91,6 +98,7 @@ fn owners_on_short_tables() {
     {
         let short = OwnerTables { requesters: &t.requesters[..length], ..whole };
         check_owners(&short, &[(error(5), of_5), (dma(6, READ, 0, 4, 0), of_6)]);
+        check_owners(&short, &[(fatal(5), of_5), (fatal(6), of_6), (fence_clear(), NOBODY)]);
     }
     // The first word of a record is its PE.
     for (length, of_6, of_7) in [(29, 0, 2), (28, 0, NOBODY), (24, NOBODY, NOBODY)] {
@@ -119,9 +127,10 @@ fn owners_past_the_tables() {
     // M and R are more than the tables hold; four times 2^62 is 0 in 64 bits.
     let t = of_four_pes();
     let many = OwnerTables { m: u64::MAX, r: u64::MAX, ..OwnerTables::of(&t) };
-    check_owners(&many, &[(error(5), 2), (end(7), 2)]);
+    check_owners(&many, &[(error(5), 2), (fatal(5), 2), (end(7), 2)]);
     for number in [8, 32, 0x1_0005, (1 << 32) + 5, (1 << 62) + 7, u64::MAX - 1] {
         check_owners(&many, &[(error(number), NOBODY), (dma(number, READ, 0, 4, 0), NOBODY)]);
+        check_owners(&many, &[(fatal(number), NOBODY)]);
         check_owners(&many, &[(end(number), NOBODY), (priority(number, 5), NOBODY)]);
     }
 }
@@ -130,8 +139,10 @@ fn owners_past_the_tables() {
 fn owners_of_words_that_name_no_request() {
     let t = of_four_pes();
     let unnamed = [
-        [7, 5, 0, 0, 0, 0, 0, 0],
+        [FENCE_CLEAR + 1, 5, 0, 0, 0, 0, 0, 0],
+        [FENCE_CLEAR + 2, 5, 0, 0, 0, 0, 0, 0],
         [(1 << 32) + ERROR, 5, 0, 0, 0, 0, 0, 0],
+        [(1 << 32) + FATAL, 5, 0, 0, 0, 0, 0, 0],
         [u64::MAX; 8],
         dma(5, 2, 0x3ABC, 4, 0),
         dma(5, (1 << 32) + WRITE, 0x3ABC, 4, 0),
@@ -164,16 +175,17 @@ fn filled(tables: &OwnerTables) -> Bridge {
 }
 
 /// Whom a request belongs to, told from answers of the plain bridge: an error message freezes the
-/// requester's PE, a load of a byte passes with the PE of its window, and firmware is obeyed.
+/// requester's PE, a load of a byte passes with the PE of its window, and firmware is obeyed. A fence
+/// clear is nobody's.
 fn owner_by_answers(plain: &mut Bridge, request: &RequestWords) -> Option<u64> {
     let [kind, a, b, _, _, data, ..] = *request;
     let obeyed = |answer: bridge::Answer| answer.name == Name::Done;
     match kind {
         DMA if b > WRITE || data >> 32 != 0 => None,
         CLEAR if b > RECORD => None,
-        DMA | ERROR => {
+        DMA | ERROR | FATAL => {
             plain.handle(Request::Error { requester: a });
-            let frozen = plain.state.chunks(4).position(|words| words[0] != 0);
+            let frozen = plain.state.chunks_exact(STATE_WORDS).position(|words| words[0] != 0);
             plain.state.fill(0);
             frozen.map(|pe| pe as u64)
         }
@@ -215,9 +227,9 @@ fn seeded_request(random: &mut Random, t: &OwnerTables) -> RequestWords {
         0 => random.any(),
         _ => random.below(limit + 2),
     };
-    let kind = random.below(8);
+    let kind = random.below(FENCE_CLEAR + 2);
     let first = match kind {
-        DMA | ERROR => number(random, t.r),
+        DMA | ERROR | FATAL => number(random, t.r),
         LOAD | STORE => {
             let base = if random.percent(30) { M32 } else { random.between(1, 6) << 40 };
             let reach = 1 << random.between(20, 33);
@@ -234,7 +246,7 @@ fn seeded_request(random: &mut Random, t: &OwnerTables) -> RequestWords {
 #[test]
 fn owners_on_seeded_tables() {
     // How often each kind of request was somebody's, and nobody's.
-    let mut counts = [[0; 2]; 8];
+    let mut counts = [[0; 2]; FENCE_CLEAR as usize + 2];
     for seed in 0..300 {
         let mut random = Random(seed);
         let t = seeded(&mut random);
@@ -257,8 +269,10 @@ fn owners_on_seeded_tables() {
             counts[request[0] as usize][usize::from(owner.is_none())] += 1;
         }
     }
-    let [named @ .., unnamed] = counts;
-    assert!(named.iter().flatten().all(|&count| count >= 100) && unnamed[0] == 0, "{counts:?}");
+    let [owned @ .., fence_clears, unnamed] = counts;
+    let [somebodys, nobodys] = [0, 1].map(|k| fence_clears[k] + unnamed[k]);
+    assert!(somebodys == 0 && nobodys >= 100, "{counts:?}");
+    assert!(owned.iter().flatten().all(|&count| count >= 100), "{counts:?}");
 }
 
 // ---- Groups ----
@@ -499,15 +513,28 @@ fn seen_words() {
     // Interrupt 0 is PE 2's and interrupt 1 PE 0's; memory word 1 has a mark.
     let interrupts = [2, 5, 6, 0, 0, 5, 6, 0];
     let (of_2, of_0) = (bits(&[2]), bits(&[0]));
-    let tells = |interrupts: &[u64], group: &[u64], table, count| -> Vec<usize> {
-        (0..count).filter(|&k| seen(interrupts, &[0, 8], group, table, k)).collect()
+    let tells_of = |n, interrupts: &[u64], group: &[u64], table, count| -> Vec<usize> {
+        (0..count).filter(|&k| seen(n, interrupts, &[0, 8], group, table, k)).collect()
+    };
+    let tells = |interrupts: &[u64], group: &[u64], table, count| {
+        tells_of(9, interrupts, group, table, count)
     };
     for public in [0, 3, 5, 6] {
         assert_eq!(tells(&interrupts, &[], public, 9), [0, 1, 2, 3, 4, 5, 6, 7, 8]);
     }
     assert_eq!(tells(&interrupts, &of_2, 1, 40), [16, 17, 18, 19, 20, 21, 22, 23]);
     assert_eq!(tells(&interrupts, &of_2, 2, 9), [1]);
-    assert_eq!(tells(&interrupts, &of_2, 7, 40), [8, 9, 10, 11]);
+    // The fence word comes after the words of N PEs, and is public whatever the group is. The words
+    // before it are their PEs'.
+    assert_eq!(tells(&interrupts, &of_2, TABLE_STATE, 37), [8, 9, 10, 11, 36]);
+    assert_eq!(tells(&interrupts, &[], TABLE_STATE, 37), [36]);
+    for (n, fence) in [(1, 4), (2, 8), (4, 16), (64, 256), (256, 1_024)] {
+        assert_eq!(tells_of(n, &interrupts, &[], TABLE_STATE, fence + 1), [fence]);
+        let of_n = bits(&[n as usize % 256]);
+        let mut seen = if n == 256 { vec![0, 1, 2, 3] } else { Vec::new() };
+        seen.push(fence);
+        assert_eq!(tells_of(n, &interrupts, &of_n, TABLE_STATE, fence + 1), seen);
+    }
     // The PE word of each interrupt is public. What is past the table is nobody's.
     assert_eq!(tells(&interrupts, &[], 4, 16), [0, 4, 8, 12]);
     assert_eq!(tells(&interrupts, &of_2, 4, 16), [0, 1, 2, 3, 4, 8, 12]);

@@ -17,6 +17,8 @@ pub fn request_words(request: Request) -> RequestWords {
         Request::Clear { pe, part: Part::Record } => clear(pe, RECORD),
         Request::End { interrupt } => end(interrupt),
         Request::Priority { interrupt, priority: value } => priority(interrupt, value),
+        Request::Fatal { requester } => fatal(requester),
+        Request::FenceClear => fence_clear(),
     }
 }
 

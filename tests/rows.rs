@@ -14,9 +14,10 @@
 // another.
 //
 // A row of a request becomes a size line, a set line for each word that is not 0, and the request.
-// Then further requests show what the row leaves: both stop bits of every PE, and P and Q of every
-// interrupt that has a word other than 0. Error records, priorities and the bits of a stop word
-// above the lowest two are in no answer, so the text cannot show them.
+// Then further requests show what the row leaves: the fence, both stop bits of every PE, and P and Q
+// of every interrupt that has a word other than 0. Error records, priorities, the bits of a stop word
+// above the lowest two and those of the fence word above the lowest are in no answer, so the text
+// cannot show them. The text has no line for a fatal message and for a fence clear.
 // A row that reason 1 answers stands before the first size line: the text has no tables there.
 // The text takes one installed size: rows with another cannot be said.
 // A row of `formed` is a request on a bridge that serves it, and a row of `sized` a size line, with
@@ -34,7 +35,7 @@ mod replay;
 
 use definition::{Modules, Value};
 use plain_words::answer_words;
-use replay::bridge::{self, Bridge};
+use replay::bridge::{self, fence_place, Bridge, Request, FENCE, STATE_WORDS};
 use replay::{Line, INSTALLED};
 use std::borrow::Borrow;
 use std::env;
@@ -53,7 +54,8 @@ const STATE: &str = "state";
 
 const TOO_LARGE: &str = "larger than the text's limits";
 const NO_SUCH_TABLE: &str = "sizes or lengths that the text cannot lend";
-const NO_SUCH_LINE: &str = "words that name no request";
+const NO_SUCH_LINE: &str = "a request that the text has no line for";
+const NO_NAME: &str = "words that name no request";
 const NO_SUCH_SIZE: &str = "an installed size that the text does not take";
 const NO_REQUEST: &str = "a page table by itself, which no request asks about";
 
@@ -120,12 +122,28 @@ fn request_fields(request: &Value) -> Result<Vec<String>, &'static str> {
         "Error" | "End" => vec![hex(&parts[0])],
         "Clear" => vec![hex(&parts[0]), parts[1].variant().0.to_lowercase()],
         "Priority" => vec![hex(&parts[0]), hex(&parts[1])],
-        "Unnamed" => return Err(NO_SUCH_LINE),
+        "Fatal" | "FenceClear" => return Err(NO_SUCH_LINE),
+        "Unnamed" => return Err(NO_NAME),
         _ => panic!("a request of another kind: {name}"),
     };
     let word = if name == "Priority" { "prio".to_string() } else { name.to_lowercase() };
     fields.insert(0, word);
     Ok(fields)
+}
+
+/// A request as the plain bridge has it. Words that name no request have no form there.
+fn plain_request(request: &Value) -> Option<Request> {
+    match request.variant() {
+        ("Fatal", parts) => Some(Request::Fatal { requester: parts[0].word() }),
+        ("FenceClear", _) => Some(Request::FenceClear),
+        _ => {
+            let line = request_fields(request).ok()?.join("\t");
+            let Some(Line::Ask(request)) = replay::parse(line.as_bytes()) else {
+                panic!("no request: {line}")
+            };
+            Some(request)
+        }
+    }
 }
 
 /// N, M, R and the length of memory.
@@ -168,7 +186,10 @@ fn case(out: &mut Output, names: &Modules, case: &Value) -> Result<(), &'static 
     out.line(&request);
     write_answer(out, names, case.field("answer"));
     let left = case.field("left");
-    show_stop_bits(out, &left.field("state").words());
+    let state = left.field("state").words();
+    let (of_pes, fence) = state.split_at(fence_place(sizes[0]));
+    show_fence(out, of_pes.len(), fence[0]);
+    show_stop_bits(out, of_pes);
     show_interrupts(out, &left.field("interrupts").words());
     Ok(())
 }
@@ -183,11 +204,9 @@ fn numbered(names: &Modules, answer: &Value) -> Value {
     names.apply(names.value("Answer", "numbered"), answer.clone())
 }
 
-/// Whether the plain bridge does what a row of a request says. Words that name no request have no
-/// form there.
+/// Whether the plain bridge does what a row of a request says, where the request has a form there.
 fn plain_agrees(names: &Modules, case: &Value) -> Option<bool> {
-    let line = request_fields(case.field("request")).ok()?.join("\t");
-    let Some(Line::Ask(request)) = replay::parse(line.as_bytes()) else { panic!("no request") };
+    let request = plain_request(case.field("request"))?;
     let [tables, live, left] = ["tables", "live", "left"].map(|name| case.field(name));
     let [n, m, r, _] = sizes_of(tables.field("sizes"), 0);
     let narrow = |name: &str| {
@@ -226,12 +245,22 @@ fn write_answer(out: &mut Output, names: &Modules, answer: &Value) {
     out.answer(name, of("reason"), of("value"), of("words"));
 }
 
+/// An error message of a requester that no table has: 18 or 3. A fence is then cleared.
+fn show_fence(out: &mut Output, place: usize, word: u64) {
+    out.line(&["error", "ffffffffffffffff"]);
+    if word & FENCE == 0 {
+        return out.refuse(3);
+    }
+    out.refuse(18);
+    out.set(STATE, place, word & !FENCE);
+}
+
 /// A DMA by bypass and a load by M32, of each PE: 4 or a pass, 11 or a pass.
-fn show_stop_bits(out: &mut Output, state: &[u64]) {
+fn show_stop_bits(out: &mut Output, of_pes: &[u64]) {
     for (index, word) in [0, 0x100000, 0].into_iter().enumerate() {
         out.set(WINDOWS, index, word);
     }
-    for (pe, words) in state.chunks(4).enumerate() {
+    for (pe, words) in of_pes.chunks(STATE_WORDS).enumerate() {
         out.set(REQUESTERS, 0, pe as u64);
         for (index, word) in [0, 1, 1, 0].into_iter().enumerate() {
             out.set(TRANSLATION, 8 * pe + index, word);
@@ -323,7 +352,8 @@ fn sized(out: &mut Output, sizes: &Value, lengths: &Value, good: bool) -> Result
     ] {
         let length = lengths.field(field).word() as usize;
         if length > 0 {
-            out.set(table, length - 1, 1);
+            // In the last word of the state, bit 0 is the fence.
+            out.set(table, length - 1, 2);
         }
         out.set(table, length, 1);
         out.answer("bad", 0, 0, 0);

@@ -24,7 +24,7 @@ const FAMILIES: [(&str, &str); 10] = [
     ("MSI and firmware", "msi* firmware*"),
     ("requests and answers", "owners decide handle request_* bridge"),
     ("loads and stores", "mmio*"),
-    ("endpoints and freeze", "endpoints freeze"),
+    ("endpoints and freeze", "endpoints freeze fence"),
     ("premises of isolation", "isolation_*"),
     ("text", "replay_text text_*"),
     ("replay", "replay_*"),

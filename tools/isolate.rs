@@ -5,6 +5,7 @@
 // Whom a request belongs to, whether the group is closed, which table words are public or the group's,
 // and the answers come from proved functions. The premises are those of `isolated-run` in
 // crates/isolation_tests/specs/SeenLaws.antt; one that fails is named, and then nothing is compared.
+// A replay text has no line for a fatal message or a fence clear, so that nothing is asked of those.
 //
 // Exit 0: all is the same. 1: a premise fails, or an answer or a word left differs. 2: it could not be tried.
 
@@ -23,7 +24,7 @@ mod replay;
 use celltimber::*;
 use owner_tables::OwnerTables;
 use plain_words::{request_words, run_proved};
-use replay::bridge::{self, Bridge};
+use replay::bridge::{self, fence_place, Bridge};
 use replay::{Line, Outcome, Table};
 use std::env;
 use std::fs;
@@ -138,17 +139,20 @@ fn words_of(tables: &Bridge, table: Table) -> Vec<u64> {
     }
 }
 
-/// The words of both files that `counts` picks have to be the same; of a stop word its two stop bits.
+/// The words of both files that `counts` picks have to be the same; of a stop word its two stop bits,
+/// of the fence word all bits.
 fn same_words(
     files: &[File; 2],
     tables: &[(Table, &str)],
     counts: impl Fn(Table, usize) -> bool,
 ) -> Result<(), String> {
     let [a, b] = files;
+    let fence = fence_place(a.tables.n);
     for &(table, name) in tables {
         let words = files.each_ref().map(|file| words_of(&file.tables, table));
         for (i, (x, y)) in words[0].iter().zip(&words[1]).enumerate() {
-            let bits = if table == Table::State && i % 4 == 0 { 3 } else { u64::MAX };
+            let is_stop_word = table == Table::State && i % STATE_WORDS == 0 && i != fence;
+            let bits = if is_stop_word { MMIO_STOP | DMA_STOP } else { u64::MAX };
             if x & bits != y & bits && counts(table, i) {
                 return Err(format!(
                     "{} {:x} is {:x} in {}, {:x} in {}",
@@ -219,11 +223,12 @@ fn shown(answer: &AnswerWords) -> String {
     }
 }
 
-/// Whether the group's stop bits, error records and interrupt records are equal.
+/// Whether the group's stop bits, error records and interrupt records are equal, and the fence word.
 fn same_afterwards(files: &[File; 2], group: &Group) -> bool {
     let written = [(Table::State, "state"), (Table::Interrupts, "interrupts")];
-    let interrupts = &files[0].tables.interrupts;
-    same_words(files, &written, |table, i| seen(interrupts, &[], group, table as u64, i)).is_ok()
+    let Bridge { n, interrupts, .. } = &files[0].tables;
+    same_words(files, &written, |table, i| seen(*n, interrupts, &[], group, table as u64, i))
+        .is_ok()
 }
 
 /// Rows as lines, each column as wide as its widest field.
@@ -252,7 +257,7 @@ fn compare(group_text: &str, names: [&str; 2]) -> Result<(String, bool), String>
     let group = group(group_text, sizes[0].0)?;
     let tables = &files[0].tables;
     let seen = |marks: &[u64], group: &Group, table: Table, i| {
-        seen(&tables.interrupts, marks, group, table as u64, i)
+        seen(tables.n, &tables.interrupts, marks, group, table as u64, i)
     };
     let public = |table, i| seen(&[], &NO_GROUP, table, i);
     same_words(&files, &TABLES, public)
@@ -290,7 +295,7 @@ fn compare(group_text: &str, names: [&str; 2]) -> Result<(String, bool), String>
     let afterwards = same_afterwards(&files, &group);
     let word = if afterwards { "same" } else { "DIFFERENT" };
     text += &format!(
-        "stop bits, error records and interrupt records of the group afterwards: {}\n",
+        "stop bits, error records and interrupt records of the group, and the fence word, afterwards: {}\n",
         word
     );
     text += &format!(

@@ -1,3 +1,4 @@
 mod AskLaws
 mod DecideLaws
+mod FencedLaws
 mod FormLaws

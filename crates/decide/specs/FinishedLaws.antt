@@ -7,7 +7,7 @@ use mathlib.Core.Path.{_≡_, refl, _∙_}
 use mathlib.Core.List.{List}
 use Prim.Native.Nat.{ℕ}
 use lib.ListN.{length}
-use Rattle.kinds.specs.Checked.{Checked, Kept, Ready, Walk, shown}
+use Rattle.kinds.specs.Checked.{Checked, Kept, Ready, Walk, Fences, shown}
 use Rattle.kinds.specs.declared.outcome.Check.{Check}
 use Rattle.kinds.specs.declared.outcome.Outcome.{Outcome}
 use Rattle.kinds.specs.declared.record.Lengths.{Lengths}
@@ -21,6 +21,7 @@ unfolding shown finish
 finished-is i m (Kept a) = refl
 finished-is i m (Ready p o) = refl
 finished-is i m (Walk p e q) = refl
+finished-is i m (Fences b) = refl
 
 module _ (f : Tables) (m : List ℕ) (s : Live) (q : Request) {k : Lengths} {c : Check} (measured : k ≡ lengths f (length m) s)
     (checks : c ≡ shown (checked (f .sizes) (f .installed) (f .requesters) (f .entries) (f .windows) (f .segments) s (sized (f .sizes) k) q)) where

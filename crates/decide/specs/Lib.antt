@@ -1,3 +1,4 @@
 pub mod ByRequester
 pub mod Finished
 pub mod FinishedLaws
+pub mod PastFence

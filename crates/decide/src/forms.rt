@@ -55,6 +55,8 @@ pub(crate) fn is_formed(request: Request) -> bool
             interrupt: _,
             priority,
         } => priority <= HOLDING,
+        Request::Fatal { requester: _ } => true,
+        Request::FenceClear => true,
         Request::Unnamed => false,
     }
 }

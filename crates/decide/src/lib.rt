@@ -2,6 +2,7 @@
 pub mod forms;
 
 use dma;
+use fence;
 use firmware;
 use kinds::answer::Answer;
 use kinds::answer::Reason;
@@ -23,13 +24,14 @@ use owners;
 use tables::sizes;
 ghost use mathlib.Core.Path.{_≡_};
 ghost use mathlib.Core.Bool.{true};
-ghost use Rattle.kinds.specs.Checked.{shown};
+ghost use Rattle.kinds.specs.Checked.{shown, Fences};
 ghost use Rattle.profile.specs.Owner.{ofRequester, ownerIn};
 ghost use Rattle.profile.specs.Step.{formed, asked, checked, decided};
 ghost use Rattle.profile.specs.Tables.{sized};
 ghost use Rattle.owners.specs.ByOwner.{byOwner};
 ghost use Rattle.tables.specs.Tables.{tables, live};
 ghost use Rattle.decide.specs.ByRequester.{dmaOf, messageOf};
+ghost use Rattle.decide.specs.PastFence.{pastFence};
 ghost use Rattle.decide.specs.Finished.{finished};
 
 // A DMA, by its requester. N, M, R and the installed size come first.
@@ -69,8 +71,30 @@ fn message(pe: PeNumber, requester: u64) -> Check
     outcomes::ready(pe, outcome)
 }
 
-// A request that is well formed. `pes` is N.
+// An error message, by its requester. N and R come first.
+fn error_message(pes: u16, count: u64, requesters: &[u16], requester: u64) -> Check
+    ensures { λ r. ⌜ r ≡ shown (byOwner (messageOf requester) (ofRequester pes count (now (requesters .entry)) requester)) ⌝ }
+{
+    match owners::of_requester(pes, count, requesters, requester) {
+        Owner::Of(pe) => message(pe, requester),
+        Owner::Nobody(reason) => outcomes::refuse(reason),
+    }
+}
+
+// A fatal message, by its requester. N and R come first.
+fn fatal_message(pes: u16, count: u64, requesters: &[u16], requester: u64) -> Check
+    ensures { λ r. ⌜ r ≡ shown (byOwner (λ _. Fences true) (ofRequester pes count (now (requesters .entry)) requester)) ⌝ }
+{
+    match owners::of_requester(pes, count, requesters, requester) {
+        Owner::Of(_) => outcomes::fences(true),
+        Owner::Nobody(reason) => outcomes::refuse(reason),
+    }
+}
+
+// A request that is well formed; `pes` is N. The fence is asked for in the arms of the kinds that it stops. Asked for before the `match`, it would
+// cost every request a second look for its kind.
 fn ask(
+    fenced: bool,
     pes: u16,
     sizes: Sizes,
     installed: u64,
@@ -83,10 +107,13 @@ fn ask(
     request: Request,
 ) -> Check
     requires { ⌜ (formed request ≡ true) × (pes ≡ sizes .pes) ⌝ }
-    ensures { λ r. ⌜ r ≡ shown (asked sizes installed (now (requesters .entry)) (now (entries .entry)) (now (windows .entry)) (now (segments .entry)) (live (now (state .entry)) (now (interrupts .entry))) request (ownerIn sizes (now (requesters .entry)) (now (windows .entry)) (now (segments .entry)) (now (interrupts .entry)) request)) ⌝ }
+    ensures { λ r. ⌜ r ≡ shown (pastFence fenced request (asked sizes installed (now (requesters .entry)) (now (entries .entry)) (now (windows .entry)) (now (segments .entry)) (live (now (state .entry)) (now (interrupts .entry))) request (ownerIn sizes (now (requesters .entry)) (now (windows .entry)) (now (segments .entry)) (now (interrupts .entry)) request))) ⌝ }
 {
     match request {
         Request::Dma(dma) => {
+            if fenced {
+                return outcomes::refuse(Reason::Fenced);
+            }
             return by_requester(
                 pes,
                 sizes.interrupts,
@@ -100,23 +127,37 @@ fn ask(
             );
         }
         Request::Load { address, width } => {
-            let hit = mmio_windows::route(windows, segments, address);
             let value = mmio::ones(width);
-            return mmio::access_of(pes, state, hit, Answer::Ones { value });
+            if fenced {
+                return outcomes::kept(Answer::Ones {
+                    reason: Reason::Fenced,
+                    value,
+                });
+            }
+            let hit = mmio_windows::route(windows, segments, address);
+            let ones = Answer::Ones {
+                reason: Reason::MmioStopped,
+                value,
+            };
+            return mmio::access_of(pes, state, hit, ones);
         }
         Request::Store { address, width: _ } => {
+            if fenced {
+                return outcomes::kept(Answer::Drop {
+                    reason: Reason::Fenced,
+                });
+            }
             let hit = mmio_windows::route(windows, segments, address);
-            return mmio::access_of(pes, state, hit, Answer::Drop);
+            let drop = Answer::Drop {
+                reason: Reason::MmioStopped,
+            };
+            return mmio::access_of(pes, state, hit, drop);
         }
         Request::Error { requester } => {
-            match owners::of_requester(pes, sizes.requesters, requesters, requester) {
-                Owner::Nobody(reason) => {
-                    return outcomes::refuse(reason);
-                }
-                Owner::Of(pe) => {
-                    return message(pe, requester);
-                }
+            if fenced {
+                return outcomes::refuse(Reason::Fenced);
             }
+            return error_message(pes, sizes.requesters, requesters, requester);
         }
         Request::Clear { pe, part } => {
             return firmware::clear(pes, pe, part);
@@ -129,6 +170,12 @@ fn ask(
             priority,
         } => {
             return firmware::prioritize(pes, sizes.interrupts, interrupts, interrupt, priority);
+        }
+        Request::Fatal { requester } => {
+            return fatal_message(pes, sizes.requesters, requesters, requester);
+        }
+        Request::FenceClear => {
+            return outcomes::fences(false);
         }
         Request::Unnamed => {
             return outcomes::refuse(Reason::BadRequest);
@@ -153,7 +200,9 @@ pub fn check(
 {
     if sizes::sized(sizes, lengths) {
         if forms::is_formed(request) {
+            let word = fence::fence_word(state, sizes.pes);
             return ask(
+                fence::is_fenced(word),
                 sizes.pes as u16,
                 sizes,
                 installed,

@@ -1,6 +1,7 @@
 // One request on any tables: its answer, and its effect done. Only state and interrupts are written. Defined in crates/profile/specs/Step.antt.
 use decide;
 use endpoints;
+use fence;
 use freeze;
 use kinds::answer::Answer;
 use kinds::number::PeNumber;
@@ -58,6 +59,10 @@ pub(crate) fn act_at(
             bits,
         } => {
             interrupts::store(interrupts, pe, number, priority, bits);
+            return;
+        }
+        Effect::Fence { bit } => {
+            fence::set_fence(state, pes, bit);
             return;
         }
     }

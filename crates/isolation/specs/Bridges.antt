@@ -2,14 +2,17 @@
 --     group               PEs 1 and 2 of four. PE 1 is in bypass, of which a part is above the installed size, and lists PE 2; PE 2 has a page table of two levels and lists PE 3. PEs 0 and 3 are
 --                         outside and list each other
 --     Private             the words that the group does not see: entries, state and interrupts by place, and memory after the group's tables
---     bridge w            the bridge whose private words outside the group are those of w, and so are the upper bits of the group's own stop words
+--     bridge w            the bridge whose private words outside the group are those of w, and so are the upper bits of the group's own stop words. The
+--                         fence word is 6: not fenced, with other bits
 --     words x             words by which PEs 0 and 3 have a page table: for x = 1 of one level with pages of 4 KiB, for x = 2 of two levels with pages of
 --                         64 KiB and larger tables. Word 5 of each leads above 4 GiB, the installed size. Their second entry is bad, and their reason is
 --                         0 for x = 1
 --     first, second       the two bridges: of `words 1` and of `words 2`
 --     list, other         two lists whose own requests are equal, and which differ in those of PEs 0 and 3 and of nobody
+--     fenced, otherFenced     two more: at the same place among the own requests an outsider sends a fatal message, PE 3 in the one and PE 0 in the other,
+--                         and at a later one firmware clears the fence; the group sends one too. A fatal message of nobody stands where it will
 --     tableWords          the words of a table of table code 1
---     pe n                the PE with number n; row w r v a: the words of one PE in the state; places n k: the k numbers from n on
+--     pe n                the PE with number n; row w r v a: the words of one PE in the state; upFrom n k: the k numbers from n on
 --     dma, load           requests in bare numbers; a DMA has 4 bytes
 --     opened-bridges      the names that a computation on them opens
 -- Assumes nothing.
@@ -24,7 +27,7 @@ use Rattle.kinds.specs.declared.request.Direction.{Direction}
 use Rattle.kinds.specs.declared.request.Direction.the-variants.{Read, Write}
 use Rattle.kinds.specs.declared.request.Part.the-variants as part
 use Rattle.kinds.specs.declared.request.Request.{Request}
-use Rattle.kinds.specs.declared.request.Request.the-variants.{Dma, Load, Error, Clear, End, Priority}
+use Rattle.kinds.specs.declared.request.Request.the-variants.{Dma, Load, Error, Clear, End, Priority, Fatal, FenceClear}
 use Rattle.profile.specs.Tables.{Tables, Live, entryWords, recordWords, interruptWords, windowWords, segmentCount, stateWords}
 use Rattle.profile.specs.Freeze.{stopWord}
 use Rattle.profile.specs.Opened.{opened}
@@ -39,9 +42,9 @@ pub record Private : Type 0 where
   pub interrupts : ℕ → ℕ
   pub memory : List ℕ
 
-unfoldable pub places : (start count : ℕ) → List ℕ
-places n zero = []
-places n (suc k) = n ∷ places (n + 1) k
+unfoldable pub upFrom : (start count : ℕ) → List ℕ
+upFrom n zero = []
+upFrom n (suc k) = n ∷ upFrom (n + 1) k
 
 abbrev pub row : (stop reason value word : ℕ) → List ℕ
 row w r v a = w ∷ r ∷ v ∷ a ∷ []
@@ -51,7 +54,7 @@ pe n = record { 0 = n }
 
 -- the words of a PE outside the group, and those of a member, whose stop bits are clear
 abbrev outsider : Private → (pe : ℕ) → List ℕ
-outsider w p = map (w .state) (places (stopWord (pe p)) stateWords)
+outsider w p = map (w .state) (upFrom (stopWord (pe p)) stateWords)
 
 abbrev insider : Private → (pe : ℕ) → List ℕ
 insider w p = row (w .state (stopWord (pe p)) * 4) 0 0 0
@@ -62,10 +65,10 @@ tables w = record {
   installed = 2 ^ 32;
   requesters = 0 ∷ 1 ∷ 2 ∷ 3 ∷ 9 ∷ [];
   entries =
-      map (w .entries) (places 0 entryWords)
+      map (w .entries) (upFrom 0 entryWords)
       ++ (1 ∷ 512 ∷ 1 ∷ 0 ∷ 0 ∷ 0 ∷ 0 ∷ 0
       ∷ 0 ∷ 2 ∷ 1 ∷ 1 ∷ 0 ∷ 0 ∷ 0 ∷ 0
-      ∷ map (w .entries) (places (3 * entryWords) entryWords));
+      ∷ map (w .entries) (upFrom (3 * entryWords) entryWords));
   peers = 8 ∷ 0 ∷ 0 ∷ 0 ∷ 4 ∷ 0 ∷ 0 ∷ 0 ∷ 8 ∷ 0 ∷ 0 ∷ 0 ∷ 1 ∷ 0 ∷ 0 ∷ 0 ∷ [];
   windows = 0x100000000 ∷ 0x10000000 ∷ 0x80000000 ∷ replicate (windowWords - 3) 0;
   segments = 0 ∷ 9 ∷ 9 ∷ 2 ∷ replicate (segmentCount - 4) 9;
@@ -73,10 +76,10 @@ tables w = record {
 
 unfoldable pub live : Private → Live
 live w = record {
-  state = outsider w 0 ++ (insider w 1 ++ (insider w 2 ++ outsider w 3));
+  state = outsider w 0 ++ (insider w 1 ++ (insider w 2 ++ (outsider w 3 ++ (6 ∷ []))));
   interrupts =
-      0 ∷ map (w .interrupts) (places 1 (interruptWords - 1))
-      ++ (1 ∷ 5 ∷ 6 ∷ 0 ∷ 2 ∷ 7 ∷ 8 ∷ 2 ∷ 3 ∷ map (w .interrupts) (places (3 * interruptWords + 1) (interruptWords - 1)));
+      0 ∷ map (w .interrupts) (upFrom 1 (interruptWords - 1))
+      ++ (1 ∷ 5 ∷ 6 ∷ 0 ∷ 2 ∷ 7 ∷ 8 ∷ 2 ∷ 3 ∷ map (w .interrupts) (upFrom (3 * interruptWords + 1) (interruptWords - 1)));
 }
 
 abbrev pub tableWords : ℕ
@@ -160,6 +163,41 @@ other =
     ∷ End 3
     ∷ []
 
+unfoldable pub fenced : List Request
+fenced =
+    dma 2 Write 0x403010 0
+    ∷ Fatal 3
+    ∷ dma 2 Write 0x403010 0
+    ∷ Error 0
+    ∷ load 0x100300010 4
+    ∷ Clear 2 part.Dma
+    ∷ FenceClear
+    ∷ Error 0
+    ∷ dma 2 Write 0x403010 0
+    ∷ Fatal 1
+    ∷ dma 1 Read 0x1000000 0
+    ∷ FenceClear
+    ∷ []
+
+unfoldable pub otherFenced : List Request
+otherFenced =
+    -- PE 0 sends the first one, also where it is stopped
+    Fatal 4
+    ∷ dma 2 Write 0x403010 0
+    ∷ Fatal 0
+    ∷ dma 2 Write 0x403010 0
+    ∷ load 0x100300010 4
+    ∷ load 0x7000 4
+    ∷ Clear 2 part.Dma
+    ∷ FenceClear
+    ∷ dma 2 Write 0x403010 0
+    ∷ Fatal 4
+    ∷ Fatal 1
+    ∷ dma 0 Read 0x3ABC 0
+    ∷ dma 1 Read 0x1000000 0
+    ∷ FenceClear
+    ∷ []
+
 unfoldable pub opened-bridges : Unit {0}
-unfolding opened group places tables live upper lower memory words list other
+unfolding opened group upFrom tables live upper lower memory words list other fenced otherFenced
 opened-bridges = tt

@@ -1,6 +1,7 @@
 pub mod Bridges
 pub mod Corollaries
 pub mod Isolation
+pub mod Labels
 pub mod Machine
 pub mod Needed
 pub mod Unwind

@@ -1,12 +1,12 @@
 -- A machine that answers requests, what a list of requests comes to on it, and two lists side by side. No bridge is named here.
 --     Machine             what a request leaves, what it is answered, and whether it is owned, asked of the state that it meets
 --     end next s l        the state after a list
---     mine m s l          the owned requests of a list, in order; seen m s l: their answers; met m s l: each as a `Met`, with the state that it meets
+--     seen m s l          the answers to the owned requests of a list, in order; met m s l: each of these requests as a `Met`, with the state that it meets
 --     replies m s l       the answers to all requests of a list
 --     Align               two lists side by side: a request that is not owned stands alone, owned ones stand in pairs that match. `Match` looks at
 --                         the two states and the two requests, and may be weaker than equality
 --     Laws                what one request has to keep: on the left alone, on the right alone, on both
---     Pairs M l k         two lists of one length, M holding in order; OfMet Match: `Match` of two requests as they were met; requests: of a list of `Met`
+--     Pairs M l k         two lists of one length, M holding in order; OfMet Match: `Match` of two requests as they were met
 --     Runs                a machine that answers as another one does, seen through a function, as long as an invariant holds
 --     chosen own l        the requests of a list that a test picks
 -- Assumes nothing.
@@ -29,10 +29,6 @@ pub record Met (S Q : Type 0) : Type 0 where
   pub request : Q
 
 module _ {S Q A : Type 0} where
-  abbrev pub mine : Machine S Q A → S → List Q → List Q
-  mine m s [] = []
-  mine m s (q ∷ l) = cond (m .own s q) (q ∷ mine m (m .next s q) l) (mine m (m .next s q) l)
-
   abbrev pub seen : Machine S Q A → S → List Q → List A
   seen m s [] = []
   seen m s (q ∷ l) = cond (m .own s q) (m .answer s q ∷ seen m (m .next s q) l) (seen m (m .next s q) l)
@@ -66,11 +62,6 @@ Pairs M (q ∷ l) (p ∷ k) = M q p × Pairs M l k
 
 abbrev pub OfMet : {S Q : Type 0} → (S → S → Q → Q → Type 0) → Met S Q → Met S Q → Type 0
 OfMet Match x y = Match (x .state) (y .state) (x .request) (y .request)
-
-module _ {S Q : Type 0} where
-  abbrev pub requests : List (Met S Q) → List Q
-  requests [] = []
-  requests (x ∷ l) = x .request ∷ requests l
 
 pub record Runs {X S Q A : Type 0} (c : Machine X Q A) (m : Machine S Q A) (h : X → S) (I : X → Type 0) : Type 0 where
   pub answers : (x : X) → I x → (q : Q) → c .answer x q ≡ m .answer (h x) q

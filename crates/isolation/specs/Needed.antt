@@ -2,7 +2,6 @@
 --     Premise, Holds      the premises of `Isolation`, split into all that can differ by itself: `premises` has each from those of the claim, `enough`
 --                         the claim from all. The lengths of requesters, peers, windows and segments are not among them: these tables are public
 --                         themselves, so none of them differs in its length alone
---     Claim               what the claim says of two bridges and two lists
 --     code                a number for each premise, to tell them apart
 --     Counterexample x    two bridges and two lists, not without requests of the group, that meet every premise but x, and for which the claim fails
 --     needed              THE STATEMENT: there is one for each premise
@@ -11,6 +10,10 @@
 --     changed x n         n for x, 0 for each other premise; unchanged: 0 for each
 --     met                 a premise holds of `bridge unchanged` and `bridge d` where d has 0 for it
 --     told, differs       from an example to its counterexample
+--     Misplaced           how the fatal messages and fence clears of others can differ between two lists whose own requests are the same
+--     misplaced           THE STATEMENT on them: for each there is a counterexample with the same own requests, so the premise on the lists asks for no more
+--                         than it has to
+--     refused-free        a fatal message that is refused as 3 is free
 -- Assumes nothing.
 use mathlib.Core.Path.{_≡_, refl, sym, ap, _∙_}
 use mathlib.Core.Bool.{Bool, true, false, cond}
@@ -30,19 +33,21 @@ use Rattle.kinds.specs.declared.record.Lengths.{Lengths}
 use Rattle.kinds.specs.declared.record.Sizes.{Sizes}
 use Rattle.kinds.specs.declared.request.Direction.the-variants.{Read, Write}
 use Rattle.kinds.specs.declared.request.Request.{Request}
-use Rattle.kinds.specs.declared.request.Request.the-variants.{Error}
+use Rattle.kinds.specs.declared.request.Request.the-variants.{Error, Fatal, FenceClear}
 use Rattle.profile.specs.Tables.{entryWords, peerWords, windowWords, segmentCount}
 use Rattle.profile.specs.Freeze.{stopWord, reasonWord, valueWord, failedWord}
+use Rattle.profile.specs.Fence.{fenceWord}
 use Rattle.profile.specs.Entry.{entry}
 use Rattle.profile.specs.Msi.{interrupt}
 use Rattle.profile.specs.Opened.{opened}
 use Rattle.profile.specs.Agree.{interruptPe, Closed, Reads}
 use Rattle.isolation.specs.View.{Bridge, Public, Written, View}
-use Rattle.isolation.specs.Isolation.{own, answers, left, isolation}
+use Rattle.isolation.specs.Isolation.{placesIn, answers, left, own, isolation}
+use Rattle.isolation.specs.Corollaries.{Answered}
 use Rattle.isolation.specs.Bridges.{pe, row, dma, load}
 
 pub data Premise : Type 0 where
-  NotListed SameRequests SameN SameM SameR SameInstalled : Premise
+  NotListed SamePlaces SameN SameM SameR SameInstalled SameFence : Premise
   SameEntriesLength SameMemoryLength SameInterruptsLength SameStateLength : Premise
   SameRequesters SamePeers SameWindows SameSegments SameInterruptPe : Premise
   SameServer SamePriority SameBits SameMmio SameDma SameReason SameValue SameFailedWord : Premise
@@ -52,9 +57,6 @@ abbrev sizes : (n m r : ℕ) → Sizes
 sizes n m r = record { pes = n; interrupts = m; requesters = r }
 
 module _ (G : PeNumber → Bool) (a b : Bridge) (l k : List Request) where
-  abbrev pub Claim : Type 0
-  Claim = (answers G a l ≡ answers G b k) × Written G (a .tables .sizes .interrupts) (left a l) (left b k)
-
   -- f is equal for each member, and for each interrupt of a member
   abbrev pub OfMembers : {T : Type 0} → (Bridge → PeNumber → T) → Type 0
   OfMembers f = (p : PeNumber) → G p ≡ true → f a p ≡ f b p
@@ -65,11 +67,12 @@ module _ (G : PeNumber → Bool) (a b : Bridge) (l k : List Request) where
 
   abbrev pub Holds : Premise → Type 0
   Holds NotListed = Closed G (a .tables)
-  Holds SameRequests = own G a l ≡ own G b k
+  Holds SamePlaces = placesIn G a l ≡ placesIn G b k
   Holds SameN = a .tables .sizes .pes ≡ b .tables .sizes .pes
   Holds SameM = a .tables .sizes .interrupts ≡ b .tables .sizes .interrupts
   Holds SameR = a .tables .sizes .requesters ≡ b .tables .sizes .requesters
   Holds SameInstalled = a .tables .installed ≡ b .tables .installed
+  Holds SameFence = at (a .live .state) (fenceWord (a .tables .sizes .pes)) ≡ at (b .live .state) (fenceWord (a .tables .sizes .pes))
   Holds SameEntriesLength = length (a .tables .entries) ≡ length (b .tables .entries)
   Holds SameMemoryLength = length (a .memory) ≡ length (b .memory)
   Holds SameInterruptsLength = length (a .live .interrupts) ≡ length (b .live .interrupts)
@@ -91,13 +94,14 @@ module _ (G : PeNumber → Bool) (a b : Bridge) (l k : List Request) where
   Holds SameSecondEntry = OfMembers (λ x p. entry (x .tables) p 1)
   Holds SameTableWord = (n : ℕ) → Reads G (a .tables) (a .memory) n → at (a .memory) n ≡ at (b .memory) n
 
-  pub premises : Closed G (a .tables) → View G a b → own G a l ≡ own G b k → (x : Premise) → Holds x
+  pub premises : Closed G (a .tables) → View G a b → placesIn G a l ≡ placesIn G b k → (x : Premise) → Holds x
   premises c v o NotListed = c
-  premises c v o SameRequests = o
+  premises c v o SamePlaces = o
   premises c v o SameN = ap (λ (z : Sizes). z .pes) (v .public .sizes)
   premises c v o SameM = ap (λ (z : Sizes). z .interrupts) (v .public .sizes)
   premises c v o SameR = ap (λ (z : Sizes). z .requesters) (v .public .sizes)
   premises c v o SameInstalled = v .public .installed
+  premises c v o SameFence = v .public .fence
   premises c v o SameEntriesLength = ap (λ (n : Lengths). n .entries) (v .public .all-lengths)
   premises c v o SameMemoryLength = ap (λ (n : Lengths). n .memory) (v .public .all-lengths)
   premises c v o SameInterruptsLength = ap (λ (n : Lengths). n .interrupts) (v .public .all-lengths)
@@ -140,6 +144,7 @@ module _ (G : PeNumber → Bool) (a b : Bridge) (l k : List Request) where
       peers = h SamePeers;
       windows = h SameWindows;
       segments = h SameSegments;
+      fence = h SameFence;
       interrupt-pe = h SameInterruptPe;
     }
 
@@ -157,16 +162,16 @@ module _ (G : PeNumber → Bool) (a b : Bridge) (l k : List Request) where
     entries p g (suc zero) n = h SameSecondEntry p g
     entries p g (suc (suc j)) n = absurd (omega arith)
 
-    pub enough : Claim
+    pub enough : Answered G a b l k
     enough =
         let v : View G a b = record { public = public; written = written; entries = entries; table-words = h SameTableWord } in
-        isolation .isolated G a b (h NotListed) v l k (h SameRequests)
+        isolation .isolated G a b (h NotListed) v l k (h SamePlaces)
 
 -- ---- a counterexample
 
 abbrev pub code : Premise → ℕ
 code NotListed = 0
-code SameRequests = 1
+code SamePlaces = 1
 code SameN = 2
 code SameM = 3
 code SameR = 4
@@ -191,6 +196,7 @@ code SameFirstEntry = 22
 code SameSecondEntry = 23
 code SameTableWord = 24
 code SameInstalled = 25
+code SameFence = 26
 
 pub record Counterexample (x : Premise) : Type 0 where
   pub group : PeNumber → Bool
@@ -201,7 +207,7 @@ pub record Counterexample (x : Premise) : Type 0 where
   -- the group has requests
   pub asked : ltb 0 (length (own group first list)) ≡ true
   pub others : (y : Premise) → ¬ (code y ≡ code x) → Holds group first second list other y
-  pub fails : ¬ Claim group first second list other
+  pub fails : ¬ Answered group first second list other
 
 -- ---- the bridge of the examples
 
@@ -220,7 +226,7 @@ bridge d = record {
   };
   memory = 0 ∷ 0 ∷ 0 ∷ (0x12345003 + d SameTableWord) ∷ replicate (d SameMemoryLength) 0;
   live = record {
-    state = row 0 0 0 0 ++ (row (d SameMmio % 2 + 2 * d SameDma) (d SameReason) (d SameValue) (d SameFailedWord) ++ replicate (d SameStateLength) 0);
+    state = row 0 0 0 0 ++ (row (d SameMmio % 2 + 2 * d SameDma) (d SameReason) (d SameValue) (d SameFailedWord) ++ (d SameFence ∷ replicate (d SameStateLength) 0));
     interrupts = (1 + d SameInterruptPe) ∷ (5 + d SameServer) ∷ (6 + d SamePriority) ∷ d SameBits ∷ replicate (d SameInterruptsLength) 0;
   };
 }
@@ -277,15 +283,16 @@ padded (x ∷ l) k zero = refl
 padded (x ∷ l) k (suc n) = padded l k n
 
 module _ (a b : Bool) (d : Premise → ℕ) (l k : List Request) (c : d NotListed ≡ 0 → b ≡ true)
-    (o : d SameRequests ≡ 0 → own (group a b) (bridge unchanged) l ≡ own (group a b) (bridge d) k) where
+    (o : d SamePlaces ≡ 0 → placesIn (group a b) (bridge unchanged) l ≡ placesIn (group a b) (bridge d) k) where
   met : (y : Premise) → d y ≡ 0 → Holds (group a b) (bridge unchanged) (bridge d) l k y
   unfolding bridge
   met NotListed e = rw (c e) (closed a)
-  met SameRequests e = o e
+  met SamePlaces e = o e
   met SameN e = rw e
   met SameM e = rw e
   met SameR e = rw e
   met SameInstalled e = rw e
+  met SameFence e = rw e
   met SameEntriesLength e = rw e
   met SameMemoryLength e = rw e
   met SameInterruptsLength e = rw e
@@ -321,12 +328,12 @@ shown : (PeNumber → Bool) → Bridge → List Request → (p : ℕ) → ℕ
 shown G a l p =
     total (answers G a l) + at (left a l .state) (reasonWord (pe p)) + at (left a l .state) (valueWord (pe p)) + at (left a l .state) (failedWord (pe p))
 
-shown-same : (G : PeNumber → Bool) (a b : Bridge) (l k : List Request) (p : ℕ) → G (pe p) ≡ true → Claim G a b l k → shown G a l p ≡ shown G b k p
+shown-same : (G : PeNumber → Bool) (a b : Bridge) (l k : List Request) (p : ℕ) → G (pe p) ≡ true → Answered G a b l k → shown G a l p ≡ shown G b k p
 unfolding shown
 shown-same G a b l k p g c = rw (c .0, c .1 .reason (pe p) g, c .1 .value (pe p) g, c .1 .failed (pe p) g)
 
 told : {x : Premise} (n : ℕ) (a b : Bool) (p : ℕ) (l k : List Request) → (changed x n NotListed ≡ 0 → b ≡ true)
-    → (changed x n SameRequests ≡ 0 → own (group a b) (bridge unchanged) l ≡ own (group a b) (bridge (changed x n)) k)
+    → (changed x n SamePlaces ≡ 0 → placesIn (group a b) (bridge unchanged) l ≡ placesIn (group a b) (bridge (changed x n)) k)
     → ltb 0 (length (own (group a b) (bridge unchanged) l)) ≡ true
     → group a b (pe p) ≡ true → eqb (shown (group a b) (bridge unchanged) l p) (shown (group a b) (bridge (changed x n)) k p) ≡ false
     → Counterexample x
@@ -342,7 +349,7 @@ told {x} n a b p l k c o m g e = record {
 }
 
 -- one list for both bridges, and PE 1 a member; `a` says whether PE 0 is one
-differs : {x : Premise} (n : ℕ) (a : Bool) (l : List Request) → own (group a true) (bridge unchanged) l ≡ own (group a true) (bridge (changed x n)) l
+differs : {x : Premise} (n : ℕ) (a : Bool) (l : List Request) → placesIn (group a true) (bridge unchanged) l ≡ placesIn (group a true) (bridge (changed x n)) l
     → ltb 0 (length (own (group a true) (bridge unchanged) l)) ≡ true
     → eqb (shown (group a true) (bridge unchanged) l 1) (shown (group a true) (bridge (changed x n)) l 1) ≡ false → Counterexample x
 differs n a l o m e = told n a true 1 l l (λ z. refl) (λ z. o) m refl e
@@ -368,7 +375,7 @@ unfolding examples
 -- PE 1 lists PE 0, which is the group, and an error message of PE 1 stops it
 needed NotListed = told 1 true false 0 (Error 1 ∷ read 0 ∷ []) (read 0 ∷ []) (λ z. absurd (omega arith)) (λ z. refl) refl refl refl
 -- the same requests in another order
-needed SameRequests =
+needed SamePlaces =
     told 1 false true 1 (Error 1 ∷ read 1 ∷ []) (read 1 ∷ Error 1 ∷ []) (λ z. refl) (λ z. absurd (omega arith)) refl refl refl
 -- N, M or R is one more in the second, where a length is then wrong
 needed SameN = differs 1 false (read 1 ∷ []) refl refl refl
@@ -376,6 +383,8 @@ needed SameM = differs 1 false (read 1 ∷ []) refl refl refl
 needed SameR = differs 1 false (read 1 ∷ []) refl refl refl
 -- the last byte of PE 1's page is above the installed size in the first, and below it in the second
 needed SameInstalled = differs 1 false (dma 1 Read 0x3FFC 0 ∷ []) refl refl refl
+-- the second is fenced
+needed SameFence = differs 1 false (read 1 ∷ []) refl refl refl
 -- one word more in the second, which is reason 1; in memory it is not, but a walk then finds the word that it asks for
 needed SameEntriesLength = differs 1 false (read 1 ∷ []) refl refl refl
 needed SameMemoryLength = differs 1 false (dma 1 Read 0x4000 0 ∷ []) refl refl refl
@@ -407,3 +416,34 @@ needed SameFirstEntry = differs 4 false (read 1 ∷ []) refl refl refl
 needed SameSecondEntry = differs 1 false (dma 1 Read 0x800000000000000 0 ∷ []) refl refl refl
 -- another table word in the second
 needed SameTableWord = differs 0x1000 false (read 1 ∷ []) refl refl refl
+
+-- ---- the fatal messages and fence clears of others
+
+pub data Misplaced : Type 0 where
+  FatalLeftOut ClearLeftOut AnotherOrder AnotherPlace AnotherKind : Misplaced
+
+pub record Unplaced : Type 0 where
+  pub example : Counterexample SamePlaces
+  pub same-own : own (example .group) (example .first) (example .list) ≡ own (example .group) (example .second) (example .other)
+
+-- two lists on one bridge, PE 1 being the group
+unplaced : (l k : List Request) → own (group false true) (bridge unchanged) l ≡ own (group false true) (bridge (changed SamePlaces 1)) k
+    → ltb 0 (length (own (group false true) (bridge unchanged) l)) ≡ true
+    → eqb (shown (group false true) (bridge unchanged) l 1) (shown (group false true) (bridge (changed SamePlaces 1)) k 1) ≡ false → Unplaced
+unfolding told
+unplaced l k e m h = record { example = told 1 false true 1 l k (λ z. refl) (λ z. absurd (omega arith)) m refl h; same-own = e }
+
+pub misplaced : Misplaced → Unplaced
+unfolding examples told
+-- PE 0 sends a fatal message, or firmware clears the fence, in the first list only
+misplaced FatalLeftOut = unplaced (Fatal 0 ∷ read 1 ∷ []) (read 1 ∷ []) refl refl refl
+misplaced ClearLeftOut = unplaced (Fatal 0 ∷ FenceClear ∷ read 1 ∷ []) (Fatal 0 ∷ read 1 ∷ []) refl refl refl
+-- both do so in both lists, in another order; in one before PE 1's request and in the other after it
+misplaced AnotherOrder = unplaced (Fatal 0 ∷ FenceClear ∷ read 1 ∷ []) (FenceClear ∷ Fatal 0 ∷ read 1 ∷ []) refl refl refl
+misplaced AnotherPlace = unplaced (Fatal 0 ∷ read 1 ∷ []) (read 1 ∷ Fatal 0 ∷ []) refl refl refl
+-- one of each kind, at the same place
+misplaced AnotherKind = unplaced (Fatal 0 ∷ read 1 ∷ []) (FenceClear ∷ read 1 ∷ []) refl refl refl
+
+refused-free : placesIn (group false true) (bridge unchanged) (Fatal 9 ∷ read 1 ∷ []) ≡ placesIn (group false true) (bridge unchanged) (read 1 ∷ [])
+unfolding examples
+refused-free = refl

@@ -1,20 +1,16 @@
 -- The unwinding theorem: from laws of one request to two machines and two lists of requests. No bridge is named here.
 --     aligned             from `Laws` to two lists that stand side by side
 --     paired              lists whose owned requests match in order do stand side by side
---     same-pairs          equal owned requests match; same-and, pairs-both: with what the states share besides
---     unwound             THE THEOREM, for any `Match`; unwound-same: where owned requests match by being equal
+--     unwound             THE THEOREM, for any `Match`
+--     pairs-both          requests that match in two ways, in order
 --     run-same            a machine that runs as another one does: every list is answered the same and leaves the same
 --     lifted              laws of two machines are laws of two that run as they do
---     mine-chosen         where no request changes who owns what, the owned requests are those that the start owns; seen-chosen: in a list of
---                         owned requests alone, every answer is seen
 -- Assumes nothing.
-use mathlib.Core.Path.{_≡_, refl, sym, _∙_, fun-ext}
-use mathlib.Core.Bool.{Bool, true}
+use mathlib.Core.Path.{_≡_, refl, sym, _∙_}
+use mathlib.Core.Bool.{true}
 use mathlib.Core.List.{List, [], _∷_}
-use Prim.Native.Nat.{ℕ}
-use native.Mathlib.Omega.{arith}
 use Rattle.kinds.specs.Tests.{by-cases}
-use Rattle.isolation.specs.Machine.{Machine, Met, Align, Laws, Runs, Pairs, OfMet, end, mine, seen, met, replies, requests, chosen}
+use Rattle.isolation.specs.Machine.{Machine, Align, Laws, Runs, Pairs, OfMet, end, seen, met, replies}
 use Rattle.isolation.specs.Machine.Align.{done, left, right, both}
 
 module _ {S Q A : Type 0} where
@@ -59,39 +55,13 @@ pub unwound : {S Q A : Type 0} {m n : Machine S Q A} {Match : S → S → Q → 
     → (seen m s l ≡ seen n t k) × R (end (m .next) s l) (end (n .next) t k)
 unwound w s t r l k e = aligned w (paired s t l k e) r
 
--- ---- requests that match by being equal, in whatever states
-
-module _ {S Q : Type 0} where
-  equal-pairs : (l k : List (Met S Q)) → requests l ≡ requests k → Pairs (OfMet (λ (s t : S). _≡_)) l k
-  equal-pairs [] [] e = tt
-  equal-pairs [] (y ∷ k) e = absurd (let z : _≡_ {A = ℕ} 0 1 = cc in omega arith)
-  equal-pairs (x ∷ l) [] e = absurd (let z : _≡_ {A = ℕ} 0 1 = cc in omega arith)
-  equal-pairs (x ∷ l) (y ∷ k) e = (cc, equal-pairs l k (cc))
+-- ---- requests that match in two ways
 
 pub pairs-both : {X : Type 0} (M N : X → X → Type 0) (l k : List X) → Pairs M l k → Pairs N l k → Pairs (λ x y. M x y × N x y) l k
 pairs-both M N [] [] a b = tt
 pairs-both M N [] (y ∷ k) a b = absurd a
 pairs-both M N (x ∷ l) [] a b = absurd a
 pairs-both M N (x ∷ l) (y ∷ k) a b = ((a .0, b .0), pairs-both M N l k (a .1) (b .1))
-
-module _ {S Q A : Type 0} where
-  met-mine : (m : Machine S Q A) (s : S) (l : List Q) → requests (met m s l) ≡ mine m s l
-  met-mine m s [] = refl
-  met-mine m s (q ∷ l) = by-cases (m .own s q) (λ o. rw (o, met-mine m (m .next s q) l)) (λ o. rw (o, met-mine m (m .next s q) l))
-
-  pub same-pairs : (m n : Machine S Q A) (s t : S) (l k : List Q) → mine m s l ≡ mine n t k → Pairs (OfMet (λ (s t : S). _≡_)) (met m s l) (met n t k)
-  same-pairs m n s t l k e = equal-pairs (met m s l) (met n t k) (met-mine m s l ∙ e ∙ sym (met-mine n t k))
-
-  -- equal requests, where the states that they meet share something besides
-  pub same-and : (m n : Machine S Q A) (Share : S → S → Q → Type 0) (s t : S) (l k : List Q) → mine m s l ≡ mine n t k
-      → Pairs (OfMet (λ s t q p. Share s t q)) (met m s l) (met n t k) → Pairs (OfMet (λ s t q p. (q ≡ p) × Share s t q)) (met m s l) (met n t k)
-  same-and m n Share s t l k e h =
-      pairs-both (OfMet (λ s t. _≡_)) (OfMet (λ s t q p. Share s t q)) (met m s l) (met n t k) (same-pairs m n s t l k e) h
-
-  pub unwound-same : {m n : Machine S Q A} {R : S → S → Type 0} → Laws m n (λ s t. _≡_) R
-      → (s t : S) → R s t → (l k : List Q) → mine m s l ≡ mine n t k
-      → (seen m s l ≡ seen n t k) × R (end (m .next) s l) (end (n .next) t k)
-  unwound-same {m} {n} w s t r l k e = unwound w s t r l k (same-pairs m n s t l k e)
 
 -- ---- a machine that runs as another one does, seen through h, as long as I holds
 
@@ -117,24 +87,3 @@ module _ {X S Q A : Type 0} {c d : Machine X Q A} {m n : Machine S Q A} {h : X �
           (v .stays x (r .0) q, w .stays y (r .1) p, rw (v .moves x (r .0) q, w .moves y (r .1) p) (z .1)),
         );
   }
-
--- ---- where no request changes who owns what
-
-pub chosen-twice : {Q : Type 0} (own : Q → Bool) (l : List Q) → chosen own (chosen own l) ≡ chosen own l
-chosen-twice own [] = refl
-chosen-twice own (q ∷ l) = by-cases (own q) (λ o. rw (o, o, chosen-twice own l)) (λ o. rw (o, chosen-twice own l))
-
-module _ {S Q A : Type 0} (m : Machine S Q A) (kept : (s : S) (q p : Q) → m .own (m .next s q) p ≡ m .own s p) where
-  own-kept : (s : S) (q : Q) → m .own (m .next s q) ≡ m .own s
-  own-kept s q = fun-ext (kept s q)
-
-  pub mine-chosen : (s : S) (l : List Q) → mine m s l ≡ chosen (m .own s) l
-  mine-chosen s [] = refl
-  mine-chosen s (q ∷ l) = let rest : mine m (m .next s q) l ≡ chosen (m .own s) l = rw (own-kept s q) at (mine-chosen (m .next s q) l) in rw rest
-
-  pub seen-chosen : (s : S) (l : List Q) → seen m s (chosen (m .own s) l) ≡ replies m s (chosen (m .own s) l)
-  seen-chosen s [] = refl
-  seen-chosen s (q ∷ l) =
-      let rest : seen m (m .next s q) (chosen (m .own s) l) ≡ replies m (m .next s q) (chosen (m .own s) l) =
-      rw (own-kept s q) at (seen-chosen (m .next s q) l) in
-      by-cases (m .own s q) (λ o. rw (o, o, rest)) (λ o. rw o (seen-chosen s l))

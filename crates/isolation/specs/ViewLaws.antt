@@ -15,6 +15,7 @@ use Rattle.kinds.specs.Words.{at}
 use Rattle.kinds.specs.declared.number.PeNumber.{PeNumber}
 use Rattle.kinds.specs.declared.record.Interrupt.{Interrupt}
 use Rattle.kinds.specs.declared.record.Lengths.{Lengths}
+use Rattle.kinds.specs.declared.record.Sizes.{Sizes}
 use Rattle.kinds.specs.declared.record.TranslationEntry.{TranslationEntry}
 use Rattle.profile.specs.Tables.{Tables, Live, entryWords, recordWords, interruptWords, stateWords}
 use Rattle.profile.specs.Freeze.{stopWord, reasonWord, valueWord, failedWord}
@@ -38,14 +39,15 @@ module _ {G : PeNumber → Bool} {n : ℕ} {s t : Live} where
       (λ q. let x = eqb-false (i % stateWords) 0 o in let y = eqb-false (i % stateWords) 1 p in let z = eqb-false (i % stateWords) 2 q in
       let e : failedWord (peOf i) ≡ i = omega arith in rw e at (w .failed (peOf i) g)))))
 
+module _ {G : PeNumber → Bool} {z : Sizes} {s t : Live} where
   -- a word of PE p that is no stop word
-  record-word : Same G n s t → (p : PeNumber) → G p ≡ true → (j : ℕ) → 0 < j → j < stateWords
+  record-word : Same G z s t → (p : PeNumber) → G p ≡ true → (j : ℕ) → 0 < j → j < stateWords
       → at (s .state) (p .0 * stateWords + j) ≡ at (t .state) (p .0 * stateWords + j)
   record-word r p g j lo hi =
       let e : (p .0 * stateWords + j) / stateWords ≡ p .0 = omega arith in
       rw (ne-eqb ((p .0 * stateWords + j) % stateWords) 0 (omega arith)) at (r .state-word (p .0 * stateWords + j) (rw e g))
 
-  pub written : Same G n s t → Written G n s t
+  pub written : Same G z s t → Written G (z .interrupts) s t
   written r = record {
     stop-bits = stop-agrees r;
     reason = λ p g. record-word r p g 1 (omega arith) (omega arith);
@@ -90,11 +92,12 @@ module _ {G : PeNumber → Bool} {a b : Bridge} where
         rw e at (entry-word (a .tables) (b .tables) p (j / recordWords) (v .entries p g (j / recordWords) (omega arith)) (j % recordWords) (omega arith));
   }
 
-  live-agrees : View G a b → Same G (a .tables .sizes .interrupts) (a .live) (b .live)
+  live-agrees : View G a b → Same G (a .tables .sizes) (a .live) (b .live)
   live-agrees v = record {
     state-length = ap (λ (x : Lengths). x .state) (v .public .all-lengths);
     interrupts-length = ap (λ (x : Lengths). x .interrupts) (v .public .all-lengths);
     state-word = state-word (v .written);
+    fence-word = v .public .fence;
     interrupt-pe = v .public .interrupt-pe;
     interrupt-word = λ i h g j l u. interrupt-word (a .live) (b .live) i (v .written .interrupts i h g) j l u;
   }
@@ -123,6 +126,7 @@ module _ {G : PeNumber → Bool} {a b : Bridge} where
     peers = r .tables .peers;
     windows = r .tables .windows;
     segments = r .tables .segments;
+    fence = r .live .fence-word;
     interrupt-pe = r .live .interrupt-pe;
   }
 

@@ -8,7 +8,9 @@
 --     list-answers, other-answers     what each request of the two lists is answered: one DMA of PE 0 passes to different addresses, by page tables that
 --                         differ, and one is 17; its MSI is presented; others freeze, alone and with peers, are released and are refused
 --     group-answers       what the group is answered: not only refusals; group-left: what is left to it; outside-left: to PEs 0 and 3
---     witness             THE CLAIM at these two bridges and lists
+--     heard-first, heard-second   what `as-if-alone` keeps of two lists with fatal messages and fence clears
+--     witness             THE CLAIM at these two bridges and lists; fence-witness: at two lists with fatal messages and fence clears, of which the first
+--                         comes from PE 3 in the one and from PE 0 in the other
 -- Assumes nothing.
 use mathlib.Core.Path.{_≡_, refl, sym, _∙_}
 use mathlib.Core.Bool.{Bool, true, false, cond, not, _&&_}
@@ -25,20 +27,25 @@ use Rattle.kinds.specs.Tests.{by-cases, clash, and-right}
 use Rattle.kinds.specs.Words.{at}
 use Rattle.kinds.specs.declared.answer.Answer.{Answer}
 use Rattle.kinds.specs.declared.answer.Answer.the-variants.{Pass, Msi, Ones, Refuse, Done}
-use Rattle.kinds.specs.declared.answer.Reason.the-variants.{BadRequest, UnknownRequester, DmaStopped, BadEntry, TableWord, NoWindow, AboveInstalled}
+use Rattle.kinds.specs.declared.answer.Reason.the-variants.{BadRequest, UnknownRequester, DmaStopped, BadEntry, TableWord, NoWindow, MmioStopped, AboveInstalled, Fenced}
 use Rattle.kinds.specs.declared.number.ByteAddress.{ByteAddress}
 use Rattle.kinds.specs.declared.number.PageNumber.{PageNumber}
 use Rattle.kinds.specs.declared.record.TranslationEntry.{TranslationEntry}
+use Rattle.kinds.specs.declared.request.Direction.the-variants.{Read, Write}
+use Rattle.kinds.specs.declared.request.Part.the-variants as part
+use Rattle.kinds.specs.declared.request.Request.the-variants.{Clear, Fatal, FenceClear}
 use Rattle.profile.specs.Tables.{entryWords, interruptWords, stateWords}
 use Rattle.profile.specs.Freeze.{stopWord}
+use Rattle.profile.specs.Fence.{FatalMessage, Cleared}
 use Rattle.profile.specs.Entry.{classOf, half, offset, entry, pageOf, tableGood, paged, walks}
 use Rattle.profile.specs.Walk.{place, leads, walkFrom, readsBy, reads}
 use Rattle.profile.specs.WalkLaws.{walk-cases}
 use Rattle.profile.specs.Msi.{interrupt}
 use Rattle.profile.specs.Agree.{interruptPe, Closed, Reads}
 use Rattle.isolation.specs.Machine.{replies}
-use Rattle.isolation.specs.Bridges.{Private, group, pe, row, places, tableWords, tables, live, upper, lower, memory, bridge, words, first, second, list, other, opened-bridges}
-use Rattle.isolation.specs.Isolation.{machine, own, answers, left, isolation}
+use Rattle.isolation.specs.Bridges.{Private, group, pe, row, upFrom, tableWords, tables, live, upper, lower, memory, bridge, words, first, second, dma, load, list, other, fenced, otherFenced, opened-bridges}
+use Rattle.isolation.specs.Isolation.{machine, Own, Other, placesIn, answers, left, fence, isolation}
+use Rattle.isolation.specs.Corollaries.{Answered, heard}
 use Rattle.isolation.specs.View.{Bridge, Public, Written, View}
 
 -- ---- the group
@@ -126,7 +133,7 @@ tabled-reads w o k h = by-cases (walks tabled o) (λ t. walk-low w (pageOf table
 
 entry-reads : (w : Private) (p h : ℕ) (o : ByteAddress) (k : ℕ) → group (pe p) ≡ true → h < 2
     → List·Memᴰ k (readsBy (entry (tables w) (pe p) h) (memory w) o) → k < 2 * tableWords
-unfolding places tables walks paged tableGood
+unfolding upFrom tables walks paged tableGood
 entry-reads w p zero o k u b h =
     member p u (λ e. unwalked-reads bypassed (memory w) o k refl (rw e at h)) (λ e. tabled-reads w o k (rw e at h))
 entry-reads w p (suc zero) o k u b h =
@@ -140,7 +147,7 @@ reads-low w k r = entry-reads w (r .pe .0) (half (r .address)) (offset (r .addre
 
 module _ (w v : Private) (e : length (w .memory) ≡ length (v .memory)) where
   interrupt-pes : (i : ℕ) → i < 4 → interrupt (live w) i .pe ≡ interrupt (live v) i .pe
-  unfolding places live
+  unfolding upFrom live
   interrupt-pes zero h = refl
   interrupt-pes (suc zero) h = refl
   interrupt-pes (suc (suc zero)) h = refl
@@ -148,7 +155,7 @@ module _ (w v : Private) (e : length (w .memory) ≡ length (v .memory)) where
   interrupt-pes (suc (suc (suc (suc i)))) h = absurd (omega arith)
 
   interrupt-records : (i : ℕ) → i < 4 → group (interruptPe (live w) i) ≡ true → interrupt (live w) i ≡ interrupt (live v) i
-  unfolding places live group
+  unfolding upFrom live group
   interrupt-records zero h u = clash u refl
   interrupt-records (suc zero) h u = refl
   interrupt-records (suc (suc zero)) h u = refl
@@ -156,13 +163,13 @@ module _ (w v : Private) (e : length (w .memory) ≡ length (v .memory)) where
   interrupt-records (suc (suc (suc (suc i)))) h u = absurd (omega arith)
 
   group-entries : (p h : ℕ) → group (pe p) ≡ true → h < 2 → entry (tables w) (pe p) h ≡ entry (tables v) (pe p) h
-  unfolding places tables
+  unfolding upFrom tables
   group-entries p zero u b = member p u (λ e. rw e) (λ e. rw e)
   group-entries p (suc zero) u b = member p u (λ e. rw e) (λ e. rw e)
   group-entries p (suc (suc n)) u b = absurd (omega arith)
 
   group-words : Written group 4 (live w) (live v)
-  unfolding places live
+  unfolding upFrom live
   group-words = record {
     stop-bits = λ p u. member (p .0) u (λ e. rw e (omega arith)) (λ e. rw e (omega arith));
     reason = λ p u. member (p .0) u (λ e. rw e) (λ e. rw e);
@@ -172,7 +179,7 @@ module _ (w v : Private) (e : length (w .memory) ≡ length (v .memory)) where
   }
 
   public : Public (bridge w) (bridge v)
-  unfolding places tables live memory upper lower
+  unfolding upFrom tables live memory upper lower
   public = record {
     sizes = refl;
     installed = refl;
@@ -181,6 +188,7 @@ module _ (w v : Private) (e : length (w .memory) ≡ length (v .memory)) where
     peers = refl;
     windows = refl;
     segments = refl;
+    fence = refl;
     interrupt-pe = interrupt-pes;
   }
 
@@ -214,9 +222,9 @@ reads-some x = record {
 
 unfoldable pub outsideWords : Private → List ℕ
 outsideWords w =
-    map (w .entries) (places 0 entryWords ++ places (3 * entryWords) entryWords)
-    ++ map (w .state) (places 0 stateWords ++ places (3 * stateWords) stateWords)
-    ++ map (w .interrupts) (places 1 (interruptWords - 1) ++ places (3 * interruptWords + 1) (interruptWords - 1))
+    map (w .entries) (upFrom 0 entryWords ++ upFrom (3 * entryWords) entryWords)
+    ++ map (w .state) (upFrom 0 stateWords ++ upFrom (3 * stateWords) stateWords)
+    ++ map (w .interrupts) (upFrom 1 (interruptWords - 1) ++ upFrom (3 * interruptWords + 1) (interruptWords - 1))
     ++ w .memory
 
 -- the words of a bridge, in the same form
@@ -236,7 +244,7 @@ unfoldable pub ownStops : Bridge → List ℕ
 ownStops a = map (at (a .live .state)) (stopWord (pe 1) ∷ stopWord (pe 2) ∷ [])
 
 pub own-stops : (w : Private) → ownStops (bridge w) ≡ map (λ k. w .state k * 4) (stopWord (pe 1) ∷ stopWord (pe 2) ∷ [])
-unfolding places live ownStops
+unfolding upFrom live ownStops
 own-stops w = refl
 
 -- two lists of one length that differ at every place
@@ -252,43 +260,89 @@ all-differ = refl
 
 -- ---- two lists
 
-same-own : own group first list ≡ own group second other
+same-places : placesIn group first list ≡ placesIn group second other
 unfolding opened-bridges
-same-own = refl
+same-places = refl
 
 unfoldable pub pass : (address pe words : ℕ) → Answer
 pass a p n = Pass (record { 0 = a }) (pe p) n
 
 list-answers : replies (machine group (first .tables) (first .memory)) (first .live) list ≡
     Done ∷ pass 0x9010 2 2 ∷ refuse DmaStopped ∷ Done ∷ pass 0x1110ABC 0 1 ∷ pass 0x1000000 1 0 ∷ Msi 0 1 1 ∷ Msi 1 5 6 ∷ refuse AboveInstalled
-    ∷ refuse UnknownRequester ∷ refuse BadRequest ∷ refuse BadEntry ∷ Refuse TableWord 1 (record { 0 = 0x20 }) ∷ Ones 0xFFFFFFFF ∷ Done ∷ Done ∷ refuse NoWindow ∷ []
+    ∷ refuse UnknownRequester ∷ refuse BadRequest ∷ refuse BadEntry ∷ Refuse TableWord 1 (record { 0 = 0x20 }) ∷ Ones MmioStopped 0xFFFFFFFF ∷ Done ∷ Done ∷ refuse NoWindow ∷ []
 unfolding opened-bridges pass
 list-answers = refl
 
 other-answers : replies (machine group (second .tables) (second .memory)) (second .live) other ≡
     pass 0x9010 2 2 ∷ pass 0x1000000 1 0 ∷ refuse DmaStopped ∷ Done ∷ pass 0x2223ABC 0 2 ∷ Refuse AboveInstalled 2 noWord ∷ Msi 1 5 6 ∷ refuse AboveInstalled
-    ∷ refuse BadRequest ∷ Done ∷ refuse BadRequest ∷ Refuse TableWord 1 (record { 0 = 0x20 }) ∷ Ones 0xFFFFFFFF ∷ Done ∷ Done ∷ Done ∷ Done ∷ []
+    ∷ refuse BadRequest ∷ Done ∷ refuse BadRequest ∷ Refuse TableWord 1 (record { 0 = 0x20 }) ∷ Ones MmioStopped 0xFFFFFFFF ∷ Done ∷ Done ∷ Done ∷ Done ∷ []
 unfolding opened-bridges pass
 other-answers = refl
 
 -- what the group is answered, in both
 group-answers : answers group first list ≡
-    pass 0x9010 2 2 ∷ pass 0x1000000 1 0 ∷ Msi 1 5 6 ∷ refuse AboveInstalled ∷ refuse BadRequest ∷ Refuse TableWord 1 (record { 0 = 0x20 }) ∷ Ones 0xFFFFFFFF ∷ Done ∷ Done ∷ []
+    pass 0x9010 2 2 ∷ pass 0x1000000 1 0 ∷ Msi 1 5 6 ∷ refuse AboveInstalled ∷ refuse BadRequest ∷ Refuse TableWord 1 (record { 0 = 0x20 }) ∷ Ones MmioStopped 0xFFFFFFFF ∷ Done ∷ Done ∷ []
 unfolding opened-bridges pass
 group-answers = refl
 
 -- and what is left to it: the words of PEs 1 and 2 in the state, and their interrupts
-group-left : map (at (left first list .state)) (places (stopWord (pe 1)) (2 * stateWords))
-    ++ map (at (left first list .interrupts)) (places interruptWords (2 * interruptWords)) ≡
+group-left : map (at (left first list .state)) (upFrom (stopWord (pe 1)) (2 * stateWords))
+    ++ map (at (left first list .interrupts)) (upFrom interruptWords (2 * interruptWords)) ≡
     row 7 17 0x180000000 0 ++ row 6 8 0x800000 0x20 ++ (1 ∷ 5 ∷ 6 ∷ 2 ∷ 2 ∷ 7 ∷ 8 ∷ 0 ∷ [])
 unfolding opened-bridges
 group-left = refl
 
 -- and to PEs 0 and 3: PE 3 has sent an error message, and PE 0 was frozen as its peer
-outside-left : map (at (left first list .state)) (places 0 stateWords ++ places (3 * stateWords) stateWords) ≡ row 3 13 3 0 ++ row 3 12 3 0
+outside-left : map (at (left first list .state)) (upFrom 0 stateWords ++ upFrom (3 * stateWords) stateWords) ≡ row 3 13 3 0 ++ row 3 12 3 0
 unfolding opened-bridges
 outside-left = refl
 
-pub witness : (answers group first list ≡ answers group second other) × Written group 4 (left first list) (left second other)
+pub witness : Answered group first second list other
 unfolding tables
-witness = isolation .isolated group first second (closed (words 1)) (view (words 1) (words 2) (unfold words in refl)) list other same-own
+witness = isolation .isolated group first second (closed (words 1)) (view (words 1) (words 2) (unfold words in refl)) list other same-places
+
+-- ---- two lists with an outsider's fatal message and a fence clear at the same places
+
+fenced-places : placesIn group first fenced ≡
+    Own (dma 2 Write 0x403010 0) ∷ Other FatalMessage ∷ Own (dma 2 Write 0x403010 0) ∷ Own (load 0x100300010 4) ∷ Own (Clear 2 part.Dma) ∷ Other Cleared
+    ∷ Own (dma 2 Write 0x403010 0) ∷ Own (Fatal 1) ∷ Own (dma 1 Read 0x1000000 0) ∷ Other Cleared ∷ []
+unfolding opened-bridges
+fenced-places = refl
+
+same-fenced : placesIn group first fenced ≡ placesIn group second otherFenced
+unfolding opened-bridges
+same-fenced = refl
+
+-- as if alone: the neighbours' error messages, loads and DMAs are left out, and their fatal messages that are 3
+heard-first : heard group first fenced ≡
+    dma 2 Write 0x403010 0 ∷ Fatal 3 ∷ dma 2 Write 0x403010 0 ∷ load 0x100300010 4 ∷ Clear 2 part.Dma ∷ FenceClear ∷ dma 2 Write 0x403010 0 ∷ Fatal 1
+    ∷ dma 1 Read 0x1000000 0 ∷ FenceClear ∷ []
+unfolding opened-bridges
+heard-first = refl
+
+heard-second : heard group second otherFenced ≡
+    dma 2 Write 0x403010 0 ∷ Fatal 0 ∷ dma 2 Write 0x403010 0 ∷ load 0x100300010 4 ∷ Clear 2 part.Dma ∷ FenceClear ∷ dma 2 Write 0x403010 0 ∷ Fatal 1
+    ∷ dma 1 Read 0x1000000 0 ∷ FenceClear ∷ []
+unfolding opened-bridges
+heard-second = refl
+
+-- every answer of both: while the bridge is fenced firmware works, a message of a stopped PE is obeyed, and after the clear all else is as it was
+fenced-answers : replies (machine group (first .tables) (first .memory)) (first .live) fenced ≡
+    pass 0x9010 2 2 ∷ Done ∷ refuse Fenced ∷ refuse Fenced ∷ Ones Fenced 0xFFFFFFFF ∷ Done ∷ Done ∷ Done ∷ pass 0x9010 2 2 ∷ Done ∷ refuse Fenced ∷ Done ∷ []
+unfolding opened-bridges pass
+fenced-answers = refl
+
+otherFenced-answers : replies (machine group (second .tables) (second .memory)) (second .live) otherFenced ≡
+    refuse UnknownRequester ∷ pass 0x9010 2 2 ∷ Done ∷ refuse Fenced ∷ Ones Fenced 0xFFFFFFFF ∷ Ones Fenced 0xFFFFFFFF ∷ Done ∷ Done ∷ pass 0x9010 2 2
+    ∷ refuse UnknownRequester ∷ Done ∷ refuse Fenced ∷ refuse Fenced ∷ Done ∷ []
+unfolding opened-bridges pass
+otherFenced-answers = refl
+
+-- the fence word is as it was: its other bits stayed
+fence-left : fence first fenced ≡ 6
+unfolding opened-bridges
+fence-left = refl
+
+pub fence-witness : Answered group first second fenced otherFenced
+unfolding tables
+fence-witness = isolation .isolated group first second (closed (words 1)) (view (words 1) (words 2) (unfold words in refl)) fenced otherFenced same-fenced

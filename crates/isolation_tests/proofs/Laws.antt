@@ -3,6 +3,7 @@ use mathlib.Core.Path.{_≡_}
 use mathlib.Core.Bool.{Bool, true, false}
 use mathlib.Core.List.{List}
 use Prim.Native.Nat.{ℕ, _-_, _*_, _/_, _%_, _<_, _≤_}
+use native.Mathlib.Omega.{arith}
 use lib.ListN.{length}
 use borrow.Author.Tests.{lt-leb, le-leb, eq-eqb, ne-eqb}
 use Rattle.kinds.specs.Tests.{clash}
@@ -15,13 +16,14 @@ use Rattle.kinds.specs.declared.record.Sizes.{Sizes}
 use Rattle.kinds.specs.declared.request.Request.{Request}
 use Rattle.profile.specs.Freeze.{vectorIn}
 use Rattle.profile.specs.Owner.{ownerIn}
-use Rattle.profile.specs.Tables.{mostPes, interruptWords}
+use Rattle.profile.specs.Fence.{fenceWord}
+use Rattle.profile.specs.Tables.{mostPes, interruptWords, stateWords}
 use Rattle.isolation_groups.specs.Member.{memberOf}
 use Rattle.isolation_tests.specs.Group.{flag, ownerNumber, ownerNumberIn, memberListed, listsMember, outsiderLists, anyOutsiderLists, closed}
 use Rattle.isolation_reach.specs.Footprint.{roomAfter, MembersMarked}
 use Rattle.isolation_reach.specs.FootprintLaws.{marks-exact}
 use Rattle.isolation_tests.specs.Covers.{coverable, Covered}
-use Rattle.isolation_tests.specs.Seen.{interruptSeen}
+use Rattle.isolation_tests.specs.Seen.{interruptSeen, stateSeen}
 
 pub flag-set : {b : Bool} → b ≡ true → 1 ≡ flag b
 unfolding flag
@@ -123,6 +125,19 @@ module _ (g : List ℕ) (n : ℕ) (l m r t u : List ℕ) where
             }
 
 -- ---- words that are public or the group's
+
+module _ (g : List ℕ) (n i : ℕ) where
+  pub state-fence : i % stateWords ≡ 0 → i / stateWords ≡ n → true ≡ stateSeen g n i
+  unfolding stateSeen
+  state-fence h e = rw (eq-eqb i (fenceWord n) (omega arith))
+
+  pub state-stop : {b : Bool} → i % stateWords ≡ 0 → (i / stateWords ≡ n → ⊥) → b ≡ memberOf g (i / stateWords) → b ≡ stateSeen g n i
+  unfolding stateSeen
+  state-stop h e p = rw (ne-eqb i (fenceWord n) (λ z. e (omega arith))) p
+
+  pub state-record : {b : Bool} → (i % stateWords ≡ 0 → ⊥) → b ≡ memberOf g (i / stateWords) → b ≡ stateSeen g n i
+  unfolding stateSeen
+  state-record h p = rw (ne-eqb i (fenceWord n) (λ z. h (omega arith))) p
 
 module _ (g l : List ℕ) (i : ℕ) where
   pub interrupt-pe : i % interruptWords ≡ 0 → true ≡ interruptSeen g l i

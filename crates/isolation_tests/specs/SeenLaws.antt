@@ -1,7 +1,7 @@
 -- Two bridges that agree in the words that are public or the group's meet the premises of demand 3, and a run of each answers the group alike and leaves it the same.
 --     viewed              with exact marks, `SeenAlike` gives `View`: what demand 3 asks of two bridges
---     isolated-run        THE STATEMENT: where the group is `closed`, the marks are `Exact`, every `seen` word is equal in both and so are the own
---                         requests, the answers are equal and the group's stop bits, error records and interrupt records are left equal
+--     isolated-run        THE STATEMENT: where the group is `closed`, the marks are `Exact`, every `seen` word is equal in both and so are the places
+--                         of the requests, the answers are equal, and the group's stop bits, error records and interrupt records and the fence word are left equal
 -- Assumes nothing.
 use mathlib.Core.Path.{_≡_, refl, sym, ap, _∙_}
 use mathlib.Core.Bool.{true}
@@ -18,19 +18,20 @@ use Rattle.kinds.specs.Words.{at, noPe, peAt}
 use Rattle.kinds.specs.WordsLaws.{pe-in}
 use Rattle.kinds.specs.declared.number.PeNumber.{PeNumber}
 use Rattle.kinds.specs.declared.record.Lengths.{Lengths}
-use Rattle.profile.specs.Agree.{interruptPe, seenWord}
+use Rattle.profile.specs.Agree.{peOf, interruptPe, seenWord}
+use Rattle.profile.specs.Fence.{fenceWord}
 use Rattle.profile.specs.Entry.{entry}
 use Rattle.profile.specs.Msi.{interrupt}
 use Rattle.profile.specs.Tables.{entryWords, recordWords, interruptWords, stateWords}
 use Rattle.isolation.specs.View.{Bridge, bridgeLengths, Public, Written, View}
 use Rattle.request_words.specs.Run.{served, ranTo}
-use Rattle.request_words.specs.RunIsolation.{ownRequests, ownAnswers, run-isolation}
+use Rattle.request_words.specs.RunIsolation.{runPlaces, ownAnswers, run-isolation}
 use Rattle.isolation_groups.specs.Member.{group}
 use Rattle.isolation_tests.specs.Group.{closed}
 use Rattle.isolation_tests.specs.GroupLaws.{closed-is}
 use Rattle.isolation_reach.specs.Footprint.{Exact}
 use Rattle.isolation_tests.specs.SeenAlike.{SeenAlike}
-use Rattle.isolation_tests.specs.Seen.{interruptSeen, seen}
+use Rattle.isolation_tests.specs.Seen.{interruptSeen, stateSeen, seen}
 
 -- two tables of one length with the same word
 pe-same : (l k : List ℕ) (i : ℕ) → length l ≡ length k → at l i ≡ at k i → peAt l i ≡ peAt k i
@@ -57,10 +58,25 @@ module _ (g t : List ℕ) (a b : Bridge) (s : SeenAlike g t a b) where
       let e : (i * interruptWords + j) / interruptWords * interruptWords ≡ i * interruptWords = omega arith in
       s .words 4 (i * interruptWords + j) (by-cases (eqb ((i * interruptWords + j) % interruptWords) 0) (λ o. rw o) (λ o. rw (o, e) m))
 
+  -- what counts of the word, if it is not the fence word, of which all does
+  word-seen : (i : ℕ) → group g (peOf i) ≡ true → seenWord i (at (a .live .state) i) ≡ seenWord i (at (b .live .state) i)
+  unfolding seen stateSeen
+  word-seen i m =
+      let n = a .tables .sizes .pes in
+      by-cases (eqb i (fenceWord n))
+      (λ o. ap (seenWord i) (rw o at (s .words 7 i (rw o))))
+      (λ o. rw o at (s .words 7 i (rw o m)))
+
   state-word : (p : PeNumber) → group g p ≡ true → (j : ℕ) → j < stateWords
       → seenWord (p .0 * stateWords + j) (at (a .live .state) (p .0 * stateWords + j)) ≡ seenWord (p .0 * stateWords + j) (at (b .live .state) (p .0 * stateWords + j))
-  unfolding seen
-  state-word p m j h = let e : (p .0 * stateWords + j) / stateWords ≡ p .0 = omega arith in s .words 7 (p .0 * stateWords + j) (rw e m)
+  state-word p m j h = let e : (p .0 * stateWords + j) / stateWords ≡ p .0 = omega arith in word-seen (p .0 * stateWords + j) (rw e m)
+
+  fence-word : at (a .live .state) (fenceWord (a .tables .sizes .pes)) ≡ at (b .live .state) (fenceWord (a .tables .sizes .pes))
+  unfolding seen stateSeen
+  fence-word =
+      let w = fenceWord (a .tables .sizes .pes) in
+      let o : eqb w w ≡ true = eq-eqb w w refl in
+      rw o at (s .words 7 w (rw o))
 
   entry-word : (p : PeNumber) → group g p ≡ true → (j : ℕ) → j < entryWords
       → at (a .tables .entries) (p .0 * entryWords + j) ≡ at (b .tables .entries) (p .0 * entryWords + j)
@@ -77,6 +93,7 @@ module _ (g t : List ℕ) (a b : Bridge) (s : SeenAlike g t a b) where
     peers = ext-getD 0 _ _ (same-length (λ x. x .peers)) (λ i h. s .words 3 i refl);
     windows = ext-getD 0 _ _ (same-length (λ x. x .windows)) (λ i h. s .words 5 i refl);
     segments = ext-getD 0 _ _ (same-length (λ x. x .segments)) (λ i h. s .words 6 i refl);
+    fence = fence-word;
     interrupt-pe = λ i h. pe-word i;
   }
 
@@ -110,9 +127,11 @@ pub isolated-run : (g t : List ℕ) (a b : Bridge)
     -- what 1 from `celltimber_closed`, `celltimber_covers` and `celltimber_seen` means
     → closed (a .tables .sizes .pes) g (a .tables .peers) ≡ true → Exact g (a .tables .sizes .pes) (a .tables .entries) (a .memory) t → SeenAlike g t a b
     -- request words w on the first bridge and v on the second, with answer words l and k
-    → (w v l k : List ℕ) → ownRequests (group g) a w (served w l) ≡ ownRequests (group g) b v (served v k)
+    → (w v l k : List ℕ) → runPlaces (group g) a w (served w l) ≡ runPlaces (group g) b v (served v k)
     → (ownAnswers (group g) a w (ranTo (a .tables) (a .memory) w (a .live) l (served w l) .answers) (served w l)
     ≡ ownAnswers (group g) b v (ranTo (b .tables) (b .memory) v (b .live) k (served v k) .answers) (served v k))
     × Written (group g) (a .tables .sizes .interrupts) (ranTo (a .tables) (a .memory) w (a .live) l (served w l) .live)
     (ranTo (b .tables) (b .memory) v (b .live) k (served v k) .live)
+    × (at (ranTo (a .tables) (a .memory) w (a .live) l (served w l) .live .state) (fenceWord (a .tables .sizes .pes))
+    ≡ at (ranTo (b .tables) (b .memory) v (b .live) k (served v k) .live .state) (fenceWord (b .tables .sizes .pes)))
 isolated-run g t a b c marks s w v l k e = run-isolation .isolated (group g) a b (closed-is g (a .tables) c) (viewed g t a b s marks) w v l k e

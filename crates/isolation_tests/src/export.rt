@@ -119,16 +119,17 @@ pub extern "C" fn celltimber_covers(
     0
 }
 
-// 1 if word `index` of a table is public or the group's, else 0.
+// 1 if word `index` of a table is public or the group's, else 0. N comes first.
 #[no_mangle]
 pub extern "C" fn celltimber_seen(
+    pes: u64,
     interrupts: &[u64],
     marks: &[u64],
     group: &[u64],
     table: u64,
     index: usize,
 ) -> u64
-    ensures { λ r. ⌜ r ≡ flag (seen (now (group .entry)) (now (interrupts .entry)) (now (marks .entry)) table index) ⌝ }
+    ensures { λ r. ⌜ r ≡ flag (seen (now (group .entry)) pes (now (interrupts .entry)) (now (marks .entry)) table index) ⌝ }
 {
-    flag(seen::is_seen(group, interrupts, marks, table, index))
+    flag(seen::is_seen(group, pes, interrupts, marks, table, index))
 }

@@ -5,7 +5,7 @@ use profile::limits::ENTRY_WORDS;
 use profile::limits::STATE_WORDS;
 use tables::words;
 ghost use mathlib.Core.Path.{_≡_};
-ghost use Rattle.isolation_tests.specs.Seen.{interruptSeen, seen};
+ghost use Rattle.isolation_tests.specs.Seen.{interruptSeen, stateSeen, seen};
 
 const ENTRIES: u64 = 1;
 
@@ -28,14 +28,29 @@ fn interrupt_seen(group: &[u64], interrupts: &[u64], index: usize) -> bool
     isolation_groups::is_member(group, pe)
 }
 
+// The fence word is public, the other words of the state are their PE's.
+fn state_seen(group: &[u64], pes: u64, index: usize) -> bool
+    ensures { λ r. ⌜ r ≡ stateSeen (now (group .entry)) pes index ⌝ }
+{
+    let word = index as u64;
+    if word % STATE_WORDS == 0 {
+        if word / STATE_WORDS == pes {
+            return true;
+        }
+        return isolation_groups::is_member(group, word / STATE_WORDS);
+    }
+    isolation_groups::is_member(group, word / STATE_WORDS)
+}
+
 pub(crate) fn is_seen(
     group: &[u64],
+    pes: u64,
     interrupts: &[u64],
     marks: &[u64],
     table: u64,
     index: usize,
 ) -> bool
-    ensures { λ r. ⌜ r ≡ seen (now (group .entry)) (now (interrupts .entry)) (now (marks .entry)) table index ⌝ }
+    ensures { λ r. ⌜ r ≡ seen (now (group .entry)) pes (now (interrupts .entry)) (now (marks .entry)) table index ⌝ }
 {
     if table == ENTRIES {
         return isolation_groups::is_member(group, index as u64 / ENTRY_WORDS);
@@ -47,7 +62,7 @@ pub(crate) fn is_seen(
         return interrupt_seen(group, interrupts, index);
     }
     if table == STATE {
-        return isolation_groups::is_member(group, index as u64 / STATE_WORDS);
+        return state_seen(group, pes, index);
     }
     true
 }

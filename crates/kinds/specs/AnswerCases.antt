@@ -9,7 +9,7 @@ use Prim.Native.Nat.{ℕ}
 use Rattle.kinds.specs.declared.answer.Answer.{Answer}
 use Rattle.kinds.specs.declared.answer.Answer.the-variants.{Pass, Msi, Held, Ones, Drop, Refuse, Done}
 use Rattle.kinds.specs.declared.answer.Numbers.{Numbers}
-use Rattle.kinds.specs.declared.answer.Reason.the-variants.{TableLength, BadRequest, UnknownRequester, DmaStopped, AddressClass, BadEntry, OutsideWindow, TableWord, MsiRefused, NoWindow, MmioStopped, ErrorMessage, FrozenAsPeer, BadFirmware, OutsideMemory, AboveInstalled}
+use Rattle.kinds.specs.declared.answer.Reason.the-variants.{TableLength, BadRequest, UnknownRequester, DmaStopped, AddressClass, BadEntry, OutsideWindow, TableWord, MsiRefused, NoWindow, MmioStopped, ErrorMessage, FrozenAsPeer, BadFirmware, OutsideMemory, AboveInstalled, Fenced}
 use Rattle.kinds.specs.Answer.{numbered, refuse}
 
 pub record NumberCase : Type 0 where
@@ -24,8 +24,10 @@ numberCases =
     has (Pass (record { 0 = 0x5000 }) (record { 0 = 3 }) 2) 0 0 0x5000 2 3 0 0 0
     ∷ has (Msi 7 9 4) 1 0 7 0 0 9 4 0
     ∷ has (Held 7) 2 0 7 0 0 0 0 0
-    ∷ has (Ones 0xFFFF) 3 11 0xFFFF 0 0 0 0 0
-    ∷ has Drop 4 11 0 0 0 0 0 0
+    ∷ has (Ones MmioStopped 0xFFFF) 3 11 0xFFFF 0 0 0 0 0
+    ∷ has (Ones Fenced 0xFF) 3 18 0xFF 0 0 0 0 0
+    ∷ has (Drop MmioStopped) 4 11 0 0 0 0 0 0
+    ∷ has (Drop Fenced) 4 18 0 0 0 0 0 0
     ∷ has Done 6 0 0 0 0 0 0 0
     ∷ has (refuse TableLength) 5 1 0 0 0 0 0 0
     ∷ has (refuse BadRequest) 5 2 0 0 0 0 0 0
@@ -43,6 +45,7 @@ numberCases =
     ∷ has (refuse BadFirmware) 5 14 0 0 0 0 0 0
     ∷ has (Refuse OutsideMemory 1 (record { 0 = 0x6028 })) 5 15 0 1 0 0 0 0x6028
     ∷ has (Refuse AboveInstalled 3 (record { 0 = 0 })) 5 17 0 3 0 0 0 0
+    ∷ has (refuse Fenced) 5 18 0 0 0 0 0 0
     ∷ []
 
 pub numbers-hold : map (λ c. numbered (c .answer)) numberCases ≡ map (λ c. c .numbers) numberCases

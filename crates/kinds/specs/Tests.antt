@@ -3,12 +3,14 @@
 --     clash p q           a test is not both true and false
 --     and-left, and-right the parts of a conjunction that holds; and-both puts them together; and-true, and-false: by its last part
 --     or-cases            the part of a disjunction that holds; or-left and or-right put one in
+--     option-cases        what there may be is there, or not; none-some: it is not both
 --     all l               every test of a list holds; all-true: so test k does; all-append: of two lists together
 --     tests               the rule set that turns a fact about numbers into the value of its test
 -- Assumes nothing.
 use mathlib.Core.Path.{_≡_, refl, sym}
 use mathlib.Core.Bool.{Bool, true, false, _&&_, _||_}
 use mathlib.Core.List.{List, [], _∷_, _++_}
+use mathlib.Core.Option.{Option, none, some}
 use Prim.Native.Nat.{ℕ, zero, suc}
 use lib.ListN.{getD}
 use native.Mathlib.Omega.{arith}
@@ -53,6 +55,13 @@ or-left false b e = clash refl (sym e)
 pub or-right : (a b : Bool) → b ≡ true → (a || b) ≡ true
 or-right true b e = refl
 or-right false b e = e
+
+pub option-cases : {X P : Type 0} (o : Option X) → (o ≡ none → P) → ((x : X) → o ≡ some x → P) → P
+option-cases none f g = f refl
+option-cases (some x) f g = g x refl
+
+pub none-some : {X P : Type 0} {x : X} → none ≡ some x → P
+none-some e = absurd (let z : _≡_ {A = ℕ} 0 1 = cc in omega arith)
 
 abbrev pub all : List Bool → Bool
 all [] = true

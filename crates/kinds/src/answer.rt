@@ -23,10 +23,11 @@ pub enum Reason {
     BadFirmware,
     OutsideMemory,
     AboveInstalled,
+    Fenced,
 }
 
-// `Ones` and `Drop` are the load and the store of an MMIO stopped PE. A refusal has the count of table words read, and the address of the table word
-// that failed, 0 where none did.
+// `Ones` and `Drop` are a load and a store that a stop bit or the fence keeps from the device, by their reason. A refusal has the count of table words
+// read, and the address of the table word that failed, 0 where none did.
 pub enum Answer {
     Pass {
         address: ByteAddress,
@@ -42,9 +43,12 @@ pub enum Answer {
         number: u64,
     },
     Ones {
+        reason: Reason,
         value: u64,
     },
-    Drop,
+    Drop {
+        reason: Reason,
+    },
     Refuse {
         reason: Reason,
         words: u64,
@@ -67,7 +71,7 @@ pub struct Numbers {
 
 // The reasons in the order of their numbers, counted from 1. No reason has number 16, so from there on a number is one more.
 fn reason_place(reason: Reason) -> u64
-    ensures { λ r. ⌜ (r ≤ 16) × (r + r / 16 ≡ reasonNumber reason) ⌝ }
+    ensures { λ r. ⌜ (r ≤ 17) × (r + r / 16 ≡ reasonNumber reason) ⌝ }
 {
     match reason {
         Reason::TableLength => 1,
@@ -86,6 +90,7 @@ fn reason_place(reason: Reason) -> u64
         Reason::BadFirmware => 14,
         Reason::OutsideMemory => 15,
         Reason::AboveInstalled => 16,
+        Reason::Fenced => 17,
     }
 }
 
@@ -125,8 +130,8 @@ pub fn in_numbers(answer: Answer) -> Numbers
             word: 0,
         },
         Answer::Held { number } => plain(2, 0, number, 0),
-        Answer::Ones { value } => plain(3, 11, value, 0),
-        Answer::Drop => plain(4, 11, 0, 0),
+        Answer::Ones { reason, value } => plain(3, reason_number(reason), value, 0),
+        Answer::Drop { reason } => plain(4, reason_number(reason), 0, 0),
         Answer::Refuse {
             reason,
             words,

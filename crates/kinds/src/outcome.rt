@@ -30,6 +30,10 @@ pub enum Effect {
         priority: u64,
         bits: u64,
     },
+    // The fence bit becomes this. It is no PE's, so it is the same wherever the effect is done.
+    Fence {
+        bit: bool,
+    },
 }
 
 pub struct Outcome {
@@ -37,8 +41,8 @@ pub struct Outcome {
     pub effect: Effect,
 }
 
-// What is known of a request before memory is read: that it is answered and nothing is done (`kept`); its outcome, whose effect is done at `pe`; or that the page
-// table of `entry` of `pe` is walked for `dma` (`walks`). What is not known then is empty.
+// What is known of a request before memory is read: that it is answered and nothing is done (`kept`); its outcome, whose effect is done at `pe` or is
+// the fence's; or that the page table of `entry` of `pe` is walked for `dma` (`walks`). What is not known then is empty.
 pub struct Check {
     pub walks: bool,
     pub kept: bool,

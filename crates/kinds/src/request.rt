@@ -39,6 +39,10 @@ pub enum Request {
     Clear { pe: u64, part: Part },
     End { interrupt: u64 },
     Priority { interrupt: u64, priority: u64 },
+    // An error that is fatal to the bridge: it sets the fence.
+    Fatal { requester: u64 },
+    // Firmware clears the fence.
+    FenceClear,
     // Words that name no request.
     Unnamed,
 }

@@ -13,7 +13,7 @@ use kinds::request::Direction;
 use kinds::request::DmaRequest;
 ghost use mathlib.Core.Path.{_≡_};
 ghost use Rattle.kinds.specs.Answer.{refuse};
-ghost use Rattle.kinds.specs.Checked.{shown, Kept, Ready, Walk};
+ghost use Rattle.kinds.specs.Checked.{shown, Kept, Ready, Walk, Fences};
 ghost use Rattle.kinds.specs.Outcome as spec;
 
 // A pass: nothing is changed.
@@ -133,6 +133,23 @@ pub fn walk(pe: PeNumber, entry: TranslationEntry, dma: DmaRequest) -> Check
         },
         entry,
         dma,
+    }
+}
+
+// The fence bit becomes this: done at no PE.
+pub fn fences(bit: bool) -> Check
+    ensures { λ r. ⌜ r ≡ shown (Fences bit) ⌝ }
+{
+    Check {
+        walks: false,
+        kept: false,
+        pe: PeNumber(0),
+        outcome: Outcome {
+            answer: Answer::Done,
+            effect: Effect::Fence { bit },
+        },
+        entry: NO_ENTRY,
+        dma: NO_DMA,
     }
 }
 

@@ -83,6 +83,8 @@ pub fn owner_of(
             interrupt,
             priority: _,
         } => of_interrupt(pes, interrupt_count, interrupts, interrupt),
+        Request::Fatal { requester } => of_requester(pes, requester_count, requesters, requester),
+        Request::FenceClear => Owner::Nobody(Reason::BadFirmware),
         Request::Unnamed => Owner::Nobody(Reason::BadRequest),
     }
 }

@@ -10,7 +10,7 @@ use mathlib.Core.List.{List, [], _∷_, _++_, map}
 use Prim.Native.Nat.{ℕ, zero, suc, _+_, _-_, _*_, _^_}
 use lib.ListN.{set, replicate}
 use Rattle.kinds.specs.declared.answer.Answer.the-variants.{Ones, Drop}
-use Rattle.kinds.specs.declared.answer.Reason.the-variants.{TableLength, BadRequest, NoWindow}
+use Rattle.kinds.specs.declared.answer.Reason.the-variants.{TableLength, BadRequest, NoWindow, MmioStopped}
 use Rattle.profile.specs.Tables.{Tables, peerWords, windowWords}
 use Rattle.profile.specs.Windows.{m32Words, m64Words, m64Count}
 use Rattle.profile.specs.Case.{Case, windowed, short, wide, quiet, idle, endpoint, stateRow, calm, states, stopped, empty, load, store, pass, keeps, refuses}
@@ -60,8 +60,8 @@ accessChecks =
     ∷ refuses (on (m64 0 0x40000000 0x10000000 1 4 closed)) stopped (load 0x40000000 4) NoWindow
     ∷ refuses (on (m64 0 0x40000000 0x10000000 1 4 closed)) stopped (store 0x40000000 4) NoWindow
     -- 11: the MMIO stop bit, whatever the bits above the lowest two
-    ∷ keeps one empty (endpoint 1 0 0) (load 0x40000000 4) (Ones 0xFFFFFFFF)
-    ∷ keeps one empty (endpoint 5 8 9) (store 0x40000000 4) Drop
+    ∷ keeps one empty (endpoint 1 0 0) (load 0x40000000 4) (Ones MmioStopped 0xFFFFFFFF)
+    ∷ keeps one empty (endpoint 5 8 9) (store 0x40000000 4) (Drop MmioStopped)
     -- the DMA stop bit alone, the upper bits and the stop bits of others do not stop a load or a store
     ∷ keeps one empty (endpoint 2 0 0) (load 0x40000000 4) (pass 0x40000000 2 0)
     ∷ keeps one empty (endpoint 6 0 0) (store 0x40000000 4) (pass 0x40000000 2 0)
@@ -78,12 +78,12 @@ accessWidths =
     ∷ refuses one idle (load 0x40000002 4) BadRequest
     ∷ refuses one idle (load 0x40000004 8) BadRequest
     -- all ones of the width
-    ∷ keeps one empty stopped (load 0x40000000 1) (Ones 0xFF)
-    ∷ keeps one empty stopped (load 0x40000000 2) (Ones 0xFFFF)
-    ∷ keeps one empty stopped (load 0x40000000 4) (Ones 0xFFFFFFFF)
-    ∷ keeps one empty stopped (load 0x40000000 8) (Ones 0xFFFFFFFFFFFFFFFF)
+    ∷ keeps one empty stopped (load 0x40000000 1) (Ones MmioStopped 0xFF)
+    ∷ keeps one empty stopped (load 0x40000000 2) (Ones MmioStopped 0xFFFF)
+    ∷ keeps one empty stopped (load 0x40000000 4) (Ones MmioStopped 0xFFFFFFFF)
+    ∷ keeps one empty stopped (load 0x40000000 8) (Ones MmioStopped 0xFFFFFFFFFFFFFFFF)
     ∷ [])
-    ++ map (λ w. keeps one empty stopped (store 0x40000000 w) Drop) (1 ∷ 2 ∷ 4 ∷ 8 ∷ [])
+    ++ map (λ w. keeps one empty stopped (store 0x40000000 w) (Drop MmioStopped)) (1 ∷ 2 ∷ 4 ∷ 8 ∷ [])
 
 -- the M32 window of 01's case I
 abbrev pub m32I : List ℕ

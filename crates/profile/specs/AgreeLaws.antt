@@ -15,6 +15,7 @@ use borrow.Author.Tests.{eq-eqb, ne-eqb}
 use Rattle.kinds.specs.Words.{at}
 use Rattle.kinds.specs.declared.number.ByteAddress.{ByteAddress}
 use Rattle.kinds.specs.declared.number.PeNumber.{PeNumber}
+use Rattle.kinds.specs.declared.record.Sizes.{Sizes}
 use Rattle.kinds.specs.declared.request.AddressClass.the-variants.{Dma}
 use Rattle.kinds.specs.declared.request.Direction.{Direction}
 use Rattle.profile.specs.Tables.{Tables, Live, recordWords, stateWords}
@@ -25,35 +26,38 @@ use Rattle.profile.specs.WalkLaws.{translated-reads, reads-reads}
 use Rattle.profile.specs.Msi.{interrupt}
 use Rattle.profile.specs.Agree.{peOf, interruptPe, Same, Alike, Reads, Held}
 
-module _ {G : PeNumber → Bool} {n : ℕ} where
-  pub same-refl : (s : Live) → Same G n s s
+module _ {G : PeNumber → Bool} {z : Sizes} where
+  pub same-refl : (s : Live) → Same G z s s
   same-refl s = record {
     state-length = refl;
     interrupts-length = refl;
     state-word = λ i g. refl;
+    fence-word = refl;
     interrupt-pe = λ i h. refl;
     interrupt-word = λ i h g j l b. refl;
   }
 
-  pub same-sym : {s t : Live} → Same G n s t → Same G n t s
+  pub same-sym : {s t : Live} → Same G z s t → Same G z t s
   same-sym r = record {
     state-length = sym (r .state-length);
     interrupts-length = sym (r .interrupts-length);
     state-word = λ i g. sym (r .state-word i g);
+    fence-word = sym (r .fence-word);
     interrupt-pe = λ i h. sym (r .interrupt-pe i h);
     interrupt-word = λ i h g j l b. sym (r .interrupt-word i h (rw (r .interrupt-pe i h) g) j l b);
   }
 
-  pub same-trans : {s t u : Live} → Same G n s t → Same G n t u → Same G n s u
+  pub same-trans : {s t u : Live} → Same G z s t → Same G z t u → Same G z s u
   same-trans r q = record {
     state-length = r .state-length ∙ q .state-length;
     interrupts-length = r .interrupts-length ∙ q .interrupts-length;
     state-word = λ i g. r .state-word i g ∙ q .state-word i g;
+    fence-word = r .fence-word ∙ q .fence-word;
     interrupt-pe = λ i h. r .interrupt-pe i h ∙ q .interrupt-pe i h;
     interrupt-word = λ i h g j l b. r .interrupt-word i h g j l b ∙ q .interrupt-word i h (rw (← r .interrupt-pe i h) g) j l b;
   }
 
-  module _ {s t : Live} (r : Same G n s t) where
+  module _ {s t : Live} (r : Same G z s t) where
     pub stop-agrees : (p : PeNumber) → G p ≡ true → at (s .state) (stopWord p) % 4 ≡ at (t .state) (stopWord p) % 4
     stop-agrees p g =
         let d : p .0 * stateWords / stateWords ≡ p .0 = omega arith in
@@ -65,7 +69,7 @@ module _ {G : PeNumber → Bool} {n : ℕ} where
         let d : (i / stateWords * stateWords + 1) / stateWords ≡ i / stateWords = omega arith in
         rw (ne-eqb ((i / stateWords * stateWords + 1) % stateWords) 0 (omega arith)) at (r .state-word (i / stateWords * stateWords + 1) (rw d g))
 
-    pub interrupt-agrees : (i : ℕ) → i < n → G (interruptPe s i) ≡ true → interrupt s i ≡ interrupt t i
+    pub interrupt-agrees : (i : ℕ) → i < z .interrupts → G (interruptPe s i) ≡ true → interrupt s i ≡ interrupt t i
     interrupt-agrees i h g =
         rw (
           r .interrupt-pe i h,

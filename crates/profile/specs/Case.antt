@@ -11,12 +11,13 @@
 --     wide n v w g        n PEs and no interrupt; requester 0 is PE 0, requester 1 the last PE
 --     wordRow w r v a     the words of a PE in the state, with the address of a table word in the record; stateRow w r v: with none; calm: of one that is
 --                         not stopped and has no record; endpoints n r: n PEs with the words r
---     live l e            the state l, and interrupt 7 with the words e
+--     ended w l           the words l of the PEs, and the fence word w after them
+--     fencing w l e       the state `ended w l`, and interrupt 7 with the words e; live l e: with the fence word 0
 --     idle                nobody stopped; interrupt 7 is PE 2's, with server 5, priority 6, P = Q = 0
 --     states a b c d      the state of four PEs with these words, with the interrupts of `idle`; endpointAt w r v a, endpoint w r v: PE 2's words are
 --                         such a row, the others' 0
 --     stopped             every PE stopped, with empty records
---     quiet n             the words of n PEs, all 0, and no interrupt
+--     quiet n             the state of n PEs, all words 0, and no interrupt
 --     empty, words a v m  a memory of 2,600 words, all 0; memory m with word v at address a
 --     dma .. refuseAt     requests and the answers pass and refuse, in bare numbers
 --     row                 a row; keeps: nothing changes; refuses: a refusal that changes nothing, with no word read; freezesAt: on `idle`, a refusal
@@ -128,8 +129,14 @@ abbrev pub endpoints : (n : ℕ) → (words : List ℕ) → List ℕ
 endpoints zero r = []
 endpoints (suc n) r = r ++ endpoints n r
 
-abbrev pub live : (state interrupt : List ℕ) → Live
-live l e = record { state = l; interrupts = replicate (7 * interruptWords) 0 ++ e }
+abbrev pub ended : (fence : ℕ) → (words : List ℕ) → List ℕ
+ended w l = l ++ (w ∷ [])
+
+abbrev pub fencing : (fence : ℕ) → (endpoints interrupt : List ℕ) → Live
+fencing w l e = record { state = ended w l; interrupts = replicate (7 * interruptWords) 0 ++ e }
+
+abbrev pub live : (endpoints interrupt : List ℕ) → Live
+live l e = fencing 0 l e
 
 abbrev pub idle : Live
 idle = live (endpoints 4 calm) (2 ∷ 5 ∷ 6 ∷ 0 ∷ [])
@@ -147,7 +154,7 @@ abbrev pub stopped : Live
 stopped = live (endpoints 4 (stateRow 3 0 0)) (2 ∷ 5 ∷ 6 ∷ 0 ∷ [])
 
 abbrev pub quiet : (pes : ℕ) → Live
-quiet n = record { state = endpoints n calm; interrupts = [] }
+quiet n = record { state = ended 0 (endpoints n calm); interrupts = [] }
 
 abbrev pub empty : List ℕ
 empty = replicate 2600 0

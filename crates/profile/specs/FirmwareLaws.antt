@@ -25,6 +25,7 @@ waitsAfter effect.Keep = false
 waitsAfter (effect.Freeze r v) = false
 waitsAfter (effect.Release c) = false
 waitsAfter (effect.Interrupt i n b) = waits n b
+waitsAfter (effect.Fence b) = false
 
 arrived-waits : (n b : ℕ) → waits n (arrived n b) ≡ false
 unfolding arrived presents

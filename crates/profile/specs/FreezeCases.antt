@@ -37,7 +37,7 @@ use Rattle.profile.specs.Opened.{opened}
 use Rattle.profile.specs.Tables.{Tables, Live, entryWords, peerWords, windowWords, segmentCount}
 use Rattle.profile.specs.Step.{act}
 use Rattle.profile.specs.AnswersLaws.{worded, fits}
-use Rattle.profile.specs.Case.{Case, gib4, none, peered, plain, short, wide, wordRow, stateRow, calm, endpoints, quiet, idle, endpointAt, endpoint, states, stopped, empty, words, read, write, pass, refuseAt, row, keeps, refuses}
+use Rattle.profile.specs.Case.{Case, gib4, none, peered, plain, short, wide, wordRow, stateRow, calm, endpoints, ended, quiet, idle, endpointAt, endpoint, states, stopped, empty, words, read, write, pass, refuseAt, row, keeps, refuses}
 
 -- PE 2's peer vector, the others' empty
 abbrev pub vector : (a b c d : ℕ) → Tables
@@ -150,8 +150,12 @@ abbrev pub far : Tables
 far =
     wide 256 (((2 + 2 ^ 63) ∷ 1 ∷ 2 ∷ 2 ^ 63 ∷ []) ++ replicate (254 * peerWords) 0 ++ (1 ∷ 2 ∷ 4 ∷ 8 ∷ [])) (replicate windowWords 0) (replicate segmentCount 0)
 
+-- these words of the state, and no interrupt; the words of the PEs, and the fence word 0
+abbrev pub bare : List ℕ → Live
+bare l = record { state = l; interrupts = [] }
+
 abbrev pub farLeft : List ℕ → Live
-farLeft l = record { state = l; interrupts = [] }
+farLeft l = bare (ended 0 l)
 
 unfoldable pub wideCases : List Case
 wideCases =
@@ -238,7 +242,7 @@ bounds =
     ∷ freezingBy (record { reason = TableWord; value = 5; word = record { 0 = 0x2018 } }) 2 true (endpoints 2 calm) (stateRow 3 13 1 ++ wordRow 3 8 5 0x2018)
     ∷ []
 
-pub bounds-hold : map (λ c. act (c .pes) (c .peers) (c .pe) (c .effect) (farLeft (c .met))) bounds ≡ map (λ c. farLeft (c .left)) bounds
+pub bounds-hold : map (λ c. act (c .pes) (c .peers) (c .pe) (c .effect) (bare (c .met))) bounds ≡ map (λ c. bare (c .left)) bounds
 unfolding opened bounds
 bounds-hold = refl
 

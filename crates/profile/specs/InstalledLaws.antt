@@ -16,7 +16,7 @@ use lib.ListN.{length}
 use borrow.Author.Tests.{ltb-true, ltb-false, le-ltb}
 use Rattle.kinds.specs.Answer.{numbered}
 use Rattle.kinds.specs.Number.{noWord, lastByte}
-use Rattle.kinds.specs.Outcome.{refused, failed}
+use Rattle.kinds.specs.Outcome.{kept, refused, failed, done}
 use Rattle.kinds.specs.Tests.{by-cases, clash}
 use Rattle.kinds.specs.Words.{at}
 use Rattle.kinds.specs.declared.answer.Answer.{Answer}
@@ -29,6 +29,7 @@ use Rattle.kinds.specs.declared.lookup.Translated.{Translated}
 use Rattle.kinds.specs.declared.lookup.Translated.the-variants.{To, Fault}
 use Rattle.kinds.specs.declared.number.ByteAddress.{ByteAddress}
 use Rattle.kinds.specs.declared.number.PeNumber.{PeNumber}
+use Rattle.kinds.specs.declared.outcome.Effect.the-variants.{Fence}
 use Rattle.kinds.specs.declared.outcome.Outcome.{Outcome}
 use Rattle.kinds.specs.declared.record.Sizes.{Sizes}
 use Rattle.kinds.specs.declared.record.TranslationEntry.{TranslationEntry}
@@ -36,20 +37,23 @@ use Rattle.kinds.specs.declared.request.AddressClass.{AddressClass}
 use Rattle.kinds.specs.declared.request.AddressClass.the-variants as class
 use Rattle.kinds.specs.declared.request.DmaRequest.{DmaRequest}
 use Rattle.kinds.specs.declared.request.Request.{Request}
-use Rattle.kinds.specs.declared.request.Request.the-variants.{Dma, Load, Store, Error, Clear, End, Priority, Unnamed}
+use Rattle.kinds.specs.declared.request.Request.the-variants.{Dma, Load, Store, Error, Clear, End, Priority, Fatal, FenceClear, Unnamed}
 use Rattle.profile.specs.Tables.{Tables, Live, lengths, sized}
+use Rattle.profile.specs.Fence.{fenceWord, barred, shut}
+use Rattle.profile.specs.FenceLaws.{shut-cases}
 use Rattle.profile.specs.Entry.{classOf, half, offset, entryIn, walks}
 use Rattle.profile.specs.Freeze.{stopWord, dmaStopped}
 use Rattle.profile.specs.Msi.{interruptIn, ranged, presents, announced, delivered, msi}
 use Rattle.profile.specs.Step.{formed, installedTo, lastTest, outcomeOf, reached, byEntry, served, dmaAsked, ask, asked, checked, finish, decided, answered}
 use Rattle.profile.specs.Owner.{ownerIn}
+use Rattle.profile.specs.RequestLaws.{unowned-cases}
 
 unfoldable pub limitedBy : (installed : ℕ) → DmaRequest → Outcome → Answer → Outcome
 limitedBy i q o (Pass x p n) = cond (installedTo i x (q .length)) o (failed AboveInstalled (q .address) n noWord)
 limitedBy i q o (Msi n s y) = o
 limitedBy i q o (Held n) = o
-limitedBy i q o (Ones v) = o
-limitedBy i q o Drop = o
+limitedBy i q o (Ones r v) = o
+limitedBy i q o (Drop r) = o
 limitedBy i q o (Refuse r n w) = o
 limitedBy i q o Done = o
 
@@ -64,6 +68,8 @@ limitedIn i (Error r) o = o
 limitedIn i (Clear p c) o = o
 limitedIn i (End n) o = o
 limitedIn i (Priority n y) o = o
+limitedIn i (Fatal r) o = o
+limitedIn i FenceClear o = o
 limitedIn i Unnamed o = o
 
 abbrev pub decidedAt : (installed : ℕ) → Tables → List ℕ → Live → Request → Outcome
@@ -81,17 +87,31 @@ msi-limited i q c l p a k ok =
     (λ b. rw b)))
     (λ o. rw o)
 
--- a refusal stays
+-- an outcome that stays where it is a DMA's stays
+stays : (i : ℕ) (q : Request) (o : Outcome) → ((d : DmaRequest) → limited i d o ≡ o) → limitedIn i q o ≡ o
+stays i (Dma q) o h = h q
+stays i (Load a w) o h = refl
+stays i (Store a w) o h = refl
+stays i (Error n) o h = refl
+stays i (Clear p c) o h = refl
+stays i (End n) o h = refl
+stays i (Priority n y) o h = refl
+stays i (Fatal n) o h = refl
+stays i FenceClear o h = refl
+stays i Unnamed o h = refl
+
+-- a refusal, a change of the fence, and what the fence answers
 refused-limited : (i : ℕ) (q : Request) (r : Reason) → limitedIn i q (refused r) ≡ refused r
 unfolding limitedBy
-refused-limited i (Dma q) r = refl
-refused-limited i (Load a w) r = refl
-refused-limited i (Store a w) r = refl
-refused-limited i (Error n) r = refl
-refused-limited i (Clear p c) r = refl
-refused-limited i (End n) r = refl
-refused-limited i (Priority n y) r = refl
-refused-limited i Unnamed r = refl
+refused-limited i q r = stays i q (refused r) (λ d. refl)
+
+fences-limited : (i : ℕ) (q : Request) (b : Bool) → limitedIn i q (done (Fence b)) ≡ done (Fence b)
+unfolding limitedBy
+fences-limited i q b = stays i q (done (Fence b)) (λ d. refl)
+
+shut-limited : (i : ℕ) (q : Request) → limitedIn i q (kept (shut q)) ≡ kept (shut q)
+unfolding limitedBy
+shut-limited i q = stays i q (kept (shut q)) (λ d. shut-cases (λ a. limited i d (kept a) ≡ kept a) q refl (λ w. refl) refl)
 
 module _ {i j : ℕ} (low : i ≤ j) where
   -- what ends above the larger size ends above the smaller
@@ -133,13 +153,16 @@ module _ {i j : ℕ} (low : i ≤ j) where
       ask-limited p (Clear k c) = refl
       ask-limited p (End n) = refl
       ask-limited p (Priority n y) = refl
+      ask-limited p (Fatal r) = refl
+      ask-limited p FenceClear = refl
       ask-limited p Unnamed = refl
 
       asked-limited : (q : Request) (o : Owner)
           → finish i m (asked z i requesters entries windows segments s q o) ≡ limitedIn i q (finish j m (asked z j requesters entries windows segments s q o))
       unfolding asked finish
       asked-limited q (Of p) = ask-limited p q
-      asked-limited q (Nobody r) = sym (refused-limited i q r)
+      asked-limited q (Nobody r) =
+          unowned-cases (λ x. finish i m x ≡ limitedIn i q (finish j m x)) q r (sym (refused-limited i q r)) (sym (fences-limited i q false))
 
       checked-limited : (ok : Bool) (q : Request)
           → finish i m (checked z i requesters entries windows segments s ok q) ≡ limitedIn i q (finish j m (checked z j requesters entries windows segments s ok q))
@@ -147,7 +170,9 @@ module _ {i j : ℕ} (low : i ≤ j) where
       checked-limited false q = sym (refused-limited i q TableLength)
       checked-limited true q =
           by-cases (formed q)
-          (λ o. rw o (asked-limited q (ownerIn z requesters windows segments (s .interrupts) q)))
+          (λ o. rw o (by-cases (barred (at (s .state) (fenceWord (z .pes))) q)
+          (λ b. rw b (sym (shut-limited i q)))
+          (λ b. rw b (asked-limited q (ownerIn z requesters windows segments (s .interrupts) q)))))
           (λ o. rw o (sym (refused-limited i q BadRequest)))
 
 pub size-last : (i j : ℕ) → i ≤ j → (f : Tables) (m : List ℕ) (s : Live) (q : Request) → decidedAt i f m s q ≡ limitedIn i q (decidedAt j f m s q)

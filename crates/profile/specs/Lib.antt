@@ -7,6 +7,10 @@ pub mod Case
 pub mod Cases
 pub mod DmaCases
 pub mod Entry
+pub mod EventLaws
+pub mod Fence
+pub mod FenceCases
+pub mod FenceLaws
 pub mod Firmware
 pub mod FirmwareLaws
 pub mod Freeze

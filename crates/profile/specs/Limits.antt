@@ -16,9 +16,9 @@ use Prim.Native.Nat.{ℕ, _+_, _-_, _*_, _^_}
 use lib.Dec.{eqb}
 use Rattle.kinds.specs.declared.request.Part.the-variants.{Mmio}
 use Rattle.kinds.specs.declared.request.Request.{Request}
-use Rattle.kinds.specs.declared.request.Request.the-variants.{Error, Clear, End, Priority, Unnamed}
+use Rattle.kinds.specs.declared.request.Request.the-variants.{Error, Clear, End, Priority, Fatal, FenceClear, Unnamed}
 use Rattle.profile.specs.Entry.{aligned, walkable}
-use Rattle.profile.specs.Tables.{entryWords, peerWords, interruptWords, stateWords, windowWords, segmentCount, sized}
+use Rattle.profile.specs.Tables.{entryWords, peerWords, interruptWords, stateWords, fenceWords, windowWords, segmentCount, sized}
 use Rattle.profile.specs.Step.{accessFormed, dmaFormed, formed}
 use Rattle.profile.specs.Case.{read, write, load, store}
 
@@ -47,7 +47,7 @@ lent n m r w f x = record {
         interrupts = f 4 (m * interruptWords);
         windows = f 5 windowWords;
         segments = f 6 segmentCount;
-        state = f 7 (n * stateWords);
+        state = f 7 (n * stateWords + fenceWords);
       });
   good = x;
 }
@@ -56,7 +56,7 @@ lent n m r w f x = record {
 abbrev pub most : Limit
 most = record {
   gives = sized (record { pes = 256; interrupts = 4096; requesters = 65536 })
-      (record { requesters = 65536; entries = 2048; memory = 1048576; peers = 1024; interrupts = 16384; windows = 67; segments = 256; state = 1024 });
+      (record { requesters = 65536; entries = 2048; memory = 1048576; peers = 1024; interrupts = 16384; windows = 67; segments = 256; state = 1025 });
   good = true;
 }
 
@@ -167,6 +167,8 @@ forms =
     ∷ asked (Error (2 ^ 64 - 1)) true
     ∷ asked (Clear (2 ^ 64 - 1) Mmio) true
     ∷ asked (End (2 ^ 64 - 1)) true
+    ∷ asked (Fatal (2 ^ 64 - 1)) true
+    ∷ asked FenceClear true
     ∷ []
 
 unfoldable pub limits : List Limit

@@ -22,7 +22,7 @@ use Rattle.kinds.specs.declared.request.Request.the-variants.{End, Priority}
 use Rattle.profile.specs.Opened.{opened}
 use Rattle.profile.specs.Tables.{Tables, Live, interruptWords}
 use Rattle.profile.specs.Msi.{number32, number64}
-use Rattle.profile.specs.Case.{Case, plain, short, stateRow, calm, endpoints, live, idle, stopped, empty, read, write, row, refuses, freezes}
+use Rattle.profile.specs.Case.{Case, plain, short, stateRow, calm, endpoints, ended, live, idle, empty, read, write, row, refuses, freezes}
 
 -- interrupt 7 with these words, nobody stopped; the same with PE 2 frozen by reason 9 at address a
 abbrev pub irq : (pe server priority bits : ℕ) → Live
@@ -224,8 +224,8 @@ counted m = record {
 }
 
 -- the last of m interrupts is PE 2's, with 2P + Q = b; nobody stopped, or PE 2 frozen by reason 9 at address a
-abbrev pub lastOf : (m : ℕ) → (state : List ℕ) → (bits : ℕ) → Live
-lastOf m l b = record { state = l; interrupts = replicate ((m - 1) * interruptWords) 0 ++ (2 ∷ 5 ∷ 6 ∷ b ∷ []) }
+abbrev pub lastOf : (m : ℕ) → (endpoints : List ℕ) → (bits : ℕ) → Live
+lastOf m l b = record { state = ended 0 l; interrupts = replicate ((m - 1) * interruptWords) 0 ++ (2 ∷ 5 ∷ 6 ∷ b ∷ []) }
 
 abbrev pub lastIrq : (m bits : ℕ) → Live
 lastIrq m b = lastOf m (endpoints 4 calm) b

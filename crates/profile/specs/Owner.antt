@@ -4,8 +4,9 @@
 --     ofHit n h           the PE of the window that an address hits
 --     ownerIn z r w g l q the PE that request q belongs to, or nobody with the refusal that it then gets (3, 10 or 14), by the requesters r, the
 --                         windows w, the segments g and the interrupts l. A load or store belongs to the PE of its window, badly formed or not; a
---                         firmware request to the PE that it names, or to the PE of its interrupt. Words that name no request belong to nobody,
---                         and so does a request whose word is in a table too short to hold it
+--                         firmware request to the PE that it names, or to the PE of its interrupt. A fence clear names none: it belongs to nobody,
+--                         and is obeyed all the same (Step, `unowned`). Words that name no request belong to nobody, and so does a request whose
+--                         word is in a table too short to hold it
 --     owner f s q         the same of a bridge's tables
 -- Assumes nothing.
 use mathlib.Core.Bool.{cond}
@@ -20,7 +21,7 @@ use Rattle.kinds.specs.declared.lookup.Owner.{Owner}
 use Rattle.kinds.specs.declared.lookup.Owner.the-variants.{Nobody}
 use Rattle.kinds.specs.declared.record.Sizes.{Sizes}
 use Rattle.kinds.specs.declared.request.Request.{Request}
-use Rattle.kinds.specs.declared.request.Request.the-variants.{Dma, Load, Store, Error, Clear, End, Priority, Unnamed}
+use Rattle.kinds.specs.declared.request.Request.the-variants.{Dma, Load, Store, Error, Clear, End, Priority, Fatal, FenceClear, Unnamed}
 use Rattle.profile.specs.Tables.{Tables, Live, named}
 use Rattle.profile.specs.Msi.{interruptIn}
 use Rattle.profile.specs.Windows.{route}
@@ -43,6 +44,8 @@ ownerIn z r w g l (Error q) = ofRequester (z .pes) (z .requesters) r q
 ownerIn z r w g l (Clear p c) = named BadFirmware (z .pes) p
 ownerIn z r w g l (End i) = ofInterrupt (z .pes) (z .interrupts) l i
 ownerIn z r w g l (Priority i n) = ofInterrupt (z .pes) (z .interrupts) l i
+ownerIn z r w g l (Fatal q) = ofRequester (z .pes) (z .requesters) r q
+ownerIn z r w g l FenceClear = Nobody BadFirmware
 ownerIn z r w g l Unnamed = Nobody BadRequest
 
 abbrev pub owner : Tables → Live → Request → Owner

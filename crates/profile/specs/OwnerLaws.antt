@@ -24,14 +24,14 @@ use Rattle.kinds.specs.declared.number.PeNumber.{PeNumber}
 use Rattle.kinds.specs.declared.outcome.Effect.{Effect}
 use Rattle.kinds.specs.declared.record.Sizes.{Sizes}
 use Rattle.kinds.specs.declared.request.Request.{Request}
-use Rattle.kinds.specs.declared.request.Request.the-variants.{Dma, Load, Store, Error, Clear, End, Priority, Unnamed}
+use Rattle.kinds.specs.declared.request.Request.the-variants.{Dma, Load, Store, Error, Clear, End, Priority, Fatal, FenceClear, Unnamed}
 use Rattle.profile.specs.Tables.{Tables, Live, named}
 use Rattle.profile.specs.Msi.{interruptIn, interrupt}
 use Rattle.profile.specs.Windows.{route}
 use Rattle.profile.specs.Step.{actBy}
 use Rattle.profile.specs.Owner.{ofRequester, ofInterrupt, ofHit, ownerIn, owner}
 use Rattle.profile.specs.Agree.{Same, Alike}
-use Rattle.profile.specs.ActLaws.{act-keeps}
+use Rattle.profile.specs.ActLaws.{whole-keeps, act-keeps}
 
 abbrev pub Below : ℕ → Owner → Type 0
 Below n (Of p) = p .0 < n
@@ -63,6 +63,8 @@ module _ (z : Sizes) (r w g l : List ℕ) where
   ownerIn-below (Clear p c) = named-below true BadFirmware (z .pes) _
   ownerIn-below (End i) = interrupt-below _
   ownerIn-below (Priority i n) = interrupt-below _
+  ownerIn-below (Fatal q) = requester-below _
+  ownerIn-below FenceClear = tt
   ownerIn-below Unnamed = tt
 
   -- of the interrupts it depends on the PE words alone
@@ -76,6 +78,8 @@ module _ (z : Sizes) (r w g l : List ℕ) where
   ownerIn-reads k e (Clear p c) = refl
   ownerIn-reads k e (End i) = by-cases (ltb i (z .interrupts)) (λ o. rw (o, e i (ltb-true i (z .interrupts) o))) (λ o. rw o)
   ownerIn-reads k e (Priority i n) = by-cases (ltb i (z .interrupts)) (λ o. rw (o, e i (ltb-true i (z .interrupts) o))) (λ o. rw o)
+  ownerIn-reads k e (Fatal q) = refl
+  ownerIn-reads k e FenceClear = refl
   ownerIn-reads k e Unnamed = refl
 
 module _ (f : Tables) where
@@ -85,14 +89,14 @@ module _ (f : Tables) where
   acted-keeps : (o : Owner) (e : Effect) (s : Live) (i : ℕ) → interrupt (actBy f o e s) i .pe ≡ interrupt s i .pe
   unfolding actBy
   acted-keeps (Of p) e s i = act-keeps (f .sizes .pes) (f .peers) p e s i
-  acted-keeps (Nobody r) e s i = refl
+  acted-keeps (Nobody r) e s i = whole-keeps (f .sizes .pes) e s i
 
   -- whatever effect is done, at whatever PE
   pub owner-keeps : (o : Owner) (e : Effect) (s : Live) (q : Request) → owner f (actBy f o e s) q ≡ owner f s q
   owner-keeps o e s q =
       ownerIn-reads (f .sizes) (f .requesters) (f .windows) (f .segments) (actBy f o e s .interrupts) (s .interrupts) (λ i h. acted-keeps o e s i) q
 
-module _ {G : PeNumber → Bool} {f g : Tables} (w : Alike G f g) {s t : Live} (r : Same G (f .sizes .interrupts) s t) where
+module _ {G : PeNumber → Bool} {f g : Tables} (w : Alike G f g) {s t : Live} (r : Same G (f .sizes) s t) where
   pub owner-agrees : (q : Request) → owner f s q ≡ owner g t q
   owner-agrees q =
       rw (← w .sizes, ← w .requesters, ← w .windows, ← w .segments)

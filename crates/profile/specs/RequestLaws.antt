@@ -7,9 +7,9 @@
 --     finish-agrees       and what is left is the same by the walk
 --     decided-agrees      AN OWN REQUEST is answered alike (answered-agrees), and has the same effect
 --     after-agrees        so it keeps what the group sees
---     after-unseen        ANOTHER'S REQUEST is not seen, whatever effect it has
---     checked-owner       where a check is ready with an outcome or asks for a walk, it names the owner
--- A new kind of request adds a clause to ownerIn-below, ownerIn-reads, ask-agrees, ask-walks and ask-owner; one that has an effect of its own
+--     after-unseen        ANOTHER'S REQUEST is not seen, whatever effect it has, but on the fence
+--     checked-owner       where a check is ready with an outcome or asks for a walk, it names the owner; unowned-cases: what a request of nobody comes to
+-- A new kind of request adds a clause to ownerIn-below, ownerIn-reads, ask-agrees, ask-walks, unowned-cases and ask-owner; one that has an effect of its own
 -- adds that effect to the laws of `ActLaws`; one that reads a table adds what it reads of it to `Alike`, `Same` or `Held`.
 -- Assumes nothing.
 use mathlib.Core.Path.{_≡_, refl, ap, ap₂, _∙_}
@@ -21,12 +21,13 @@ use lib.Dec.{ltb, eqb}
 use lib.ListN.{length}
 use borrow.Author.Tests.{ltb-true, eqb-true}
 use Rattle.kinds.specs.Tests.{by-cases, clash, and-right}
-use Rattle.kinds.specs.Checked.{Checked, Kept, Ready, Walk}
+use Rattle.kinds.specs.Checked.{Checked, Kept, Ready, Walk, Fences}
 use Rattle.kinds.specs.Words.{at}
 use Rattle.kinds.specs.declared.answer.Answer.{Answer}
 use Rattle.kinds.specs.Answer.{refuse}
 use Rattle.kinds.specs.declared.answer.Answer.the-variants.{Ones, Drop}
-use Rattle.kinds.specs.declared.answer.Reason.the-variants.{DmaStopped}
+use Rattle.kinds.specs.declared.answer.Reason.{Reason}
+use Rattle.kinds.specs.declared.answer.Reason.the-variants.{DmaStopped, MmioStopped}
 use Rattle.kinds.specs.declared.lookup.Hit.{Hit}
 use Rattle.kinds.specs.declared.lookup.Hit.the-variants.{At, Miss}
 use Rattle.kinds.specs.declared.lookup.Owner.{Owner}
@@ -42,19 +43,20 @@ use Rattle.kinds.specs.declared.request.AddressClass.the-variants as class
 use Rattle.kinds.specs.declared.request.AddressClass as classes
 use Rattle.kinds.specs.declared.request.DmaRequest.{DmaRequest}
 use Rattle.kinds.specs.declared.request.Request.{Request}
-use Rattle.kinds.specs.declared.request.Request.the-variants.{Dma, Load, Store, Error, Clear, End, Priority, Unnamed}
+use Rattle.kinds.specs.declared.request.Request.the-variants.{Dma, Load, Store, Error, Clear, End, Priority, Fatal, FenceClear, Unnamed}
 use Rattle.profile.specs.Tables.{Tables, Live, named, lengths, sized}
 use Rattle.profile.specs.Freeze.{stopWord, dmaStopped, vector}
+use Rattle.profile.specs.Fence.{fenceWord, barred}
 use Rattle.profile.specs.Entry.{classOf, half, offset, entryIn, entry, walks}
 use Rattle.profile.specs.WalkLaws.{pages-is}
 use Rattle.profile.specs.Msi.{interrupt, delivered, msi}
 use Rattle.profile.specs.Firmware.{onGood, ends, prioritized}
 use Rattle.profile.specs.Windows.{route, onesOf}
-use Rattle.profile.specs.Step.{formed, byEntry, served, dmaAsked, accessed, ask, asked, checked, arrived, finish, actBy, checkedOn, decided, answered, after}
+use Rattle.profile.specs.Step.{formed, byEntry, served, dmaAsked, accessed, unowned, ask, asked, checked, arrived, finish, actBy, checkedOn, decided, answered, after}
 use Rattle.profile.specs.Owner.{ofInterrupt, ownerIn, owner}
 use Rattle.profile.specs.Agree.{owned, belongs, Closed, Same, Alike, Held}
 use Rattle.profile.specs.AgreeLaws.{same-refl, stop-agrees, interrupt-agrees, half-agrees, translation-agrees}
-use Rattle.profile.specs.ActLaws.{act-unseen, act-agrees}
+use Rattle.profile.specs.ActLaws.{calm, whole-calm, act-unseen, act-agrees}
 use Rattle.profile.specs.OwnerLaws.{Below, owner-below, owner-agrees}
 
 -- ---- two bridges
@@ -67,7 +69,7 @@ module _ {G : PeNumber → Bool} {f g : Tables} (w : Alike G f g) where
   pub vector-agrees : (p : PeNumber) → vector f p ≡ vector g p
   vector-agrees p = rw (w .peers)
 
-  module _ {s t : Live} (r : Same G (f .sizes .interrupts) s t) where
+  module _ {s t : Live} (r : Same G (f .sizes) s t) where
     -- an interrupt whose firmware requests are the group's
     group-interrupt : (i : ℕ) → owned G (ofInterrupt (f .sizes .pes) (f .sizes .interrupts) (s .interrupts) i) ≡ true → interrupt s i ≡ interrupt t i
     unfolding named
@@ -125,12 +127,14 @@ module _ {G : PeNumber → Bool} {f g : Tables} (w : Alike G f g) where
     ask-agrees (Dma q) o p u =
         rw (dma-bit-agrees p u)
         (ap (cond (dmaStopped (at (t .state) (stopWord p))) (Kept (refuse DmaStopped))) (served-agrees (classOf (q .address)) p u q))
-    ask-agrees (Load a n) o p u = access-agrees p u a (Ones (onesOf n))
-    ask-agrees (Store a n) o p u = access-agrees p u a Drop
+    ask-agrees (Load a n) o p u = access-agrees p u a (Ones MmioStopped (onesOf n))
+    ask-agrees (Store a n) o p u = access-agrees p u a (Drop MmioStopped)
     ask-agrees (Error n) o p u = refl
     ask-agrees (Clear k c) o p u = refl
     ask-agrees (End i) o p u = ap (λ (e : Interrupt). Ready p (onGood e (ends i e))) (group-interrupt i o)
     ask-agrees (Priority i n) o p u = ap (λ (e : Interrupt). Ready p (onGood e (prioritized i n e))) (group-interrupt i o)
+    ask-agrees (Fatal n) o p u = refl
+    ask-agrees FenceClear o p u = refl
     ask-agrees Unnamed o p u = refl
 
     asked-agrees : (q : Request) → belongs G f s q ≡ true → (o : Owner) → owned G o ≡ true
@@ -146,7 +150,7 @@ module _ {G : PeNumber → Bool} {f g : Tables} (w : Alike G f g) where
 
     pub checked-agrees : (n : ℕ) (q : Request) → belongs G f s q ≡ true → checkedOn f n s q ≡ checkedOn g n t q
     unfolding checked
-    checked-agrees n q b = rw (sized-agrees n, ← owner-agrees w r q, asked-agrees q b (owner f s q) b)
+    checked-agrees n q b = rw (sized-agrees n, ← owner-agrees w r q, asked-agrees q b (owner f s q) b, ← w .sizes, r .fence-word)
 
 -- ---- a walk
 
@@ -154,6 +158,7 @@ module _ {G : PeNumber → Bool} {f g : Tables} (w : Alike G f g) where
 abbrev pub Walkable : Tables → PeNumber → Checked → Type 0
 Walkable f k (Kept a) = Unit {0}
 Walkable f k (Ready p o) = Unit {0}
+Walkable f k (Fences b) = Unit {0}
 Walkable f k (Walk p e q) =
     (p ≡ k) × (e ≡ entry f k (half (q .address))) × (classOf (q .address) ≡ class.Dma) × (walks (entry f k (half (q .address))) (offset (q .address)) ≡ true)
 
@@ -176,13 +181,17 @@ ask-walks f s p (Error r) = tt
 ask-walks f s p (Clear q c) = tt
 ask-walks f s p (End i) = tt
 ask-walks f s p (Priority i n) = tt
+ask-walks f s p (Fatal r) = tt
+ask-walks f s p FenceClear = tt
 ask-walks f s p Unnamed = tt
 
 pub checked-walks : (f : Tables) (n : ℕ) (s : Live) (q : Request) (p : PeNumber) → owner f s q ≡ Of p → Walkable f p (checkedOn f n s q)
 unfolding checked asked
 checked-walks f n s q p h =
     by-cases (sized (f .sizes) (lengths f n s))
-    (λ o. rw o (by-cases (formed q) (λ t. rw (t, h) (ask-walks f s p q)) (λ t. rw t tt)))
+    (λ o. rw o (by-cases (formed q)
+    (λ t. rw (t, h) (by-cases (barred (at (s .state) (fenceWord (f .sizes .pes))) q) (λ b. rw b tt) (λ b. rw b (ask-walks f s p q))))
+    (λ t. rw t tt)))
     (λ o. rw o tt)
 
 -- ---- two bridges and their memories
@@ -193,13 +202,14 @@ module _ {G : PeNumber → Bool} {f g : Tables} (w : Alike G f g) where
     unfolding finish
     finish-agrees p u b i (Kept a) k = refl
     finish-agrees p u b i (Ready j o) k = refl
+    finish-agrees p u b i (Fences x) k = refl
     finish-agrees p u b i (Walk j e q) k =
         let a = q .address in
         let x = entry f p (half a) in
         rw (k .0, k .1, pages-is m x (offset a) (k .3) (q .direction), pages-is n x (offset a) (k .3) (q .direction))
         (ap (arrived i p q) (translation-agrees h p u b a (k .2) (q .direction)))
 
-    module _ {s t : Live} (r : Same G (f .sizes .interrupts) s t) where
+    module _ {s t : Live} (r : Same G (f .sizes) s t) where
       owned-agrees : (q : Request) (o : Owner) → owner f s q ≡ o → owned G o ≡ true → Below (f .sizes .pes) o
           → finish (f .installed) m (checkedOn f (length n) s q) ≡ finish (f .installed) n (checkedOn f (length n) s q)
       owned-agrees q (Of p) e u b = finish-agrees p u b (f .installed) (checkedOn f (length n) s q) (checked-walks f (length n) s q p e)
@@ -214,25 +224,25 @@ module _ {G : PeNumber → Bool} {f g : Tables} (w : Alike G f g) where
       pub answered-agrees : (q : Request) → belongs G f s q ≡ true → answered f m s q ≡ answered g n t q
       answered-agrees q b = ap (λ (o : Outcome). o .answer) (decided-agrees q b)
 
-      acted-agrees : (o : Owner) → owned G o ≡ true → (e : Effect) → Same G (f .sizes .interrupts) (actBy f o e s) (actBy g o e t)
+      acted-agrees : (o : Owner) → Below (f .sizes .pes) o → owned G o ≡ true → (e : Effect) → Same G (f .sizes) (actBy f o e s) (actBy g o e t)
       unfolding actBy
-      acted-agrees (Of p) u e = rw (← w .sizes, ← w .peers) (act-agrees r (f .sizes .pes) (f .peers) p u e)
-      acted-agrees (Nobody x) u e = clash u refl
+      acted-agrees (Of p) h u e = rw (← w .sizes, ← w .peers) (act-agrees r (f .peers) p h u e)
+      acted-agrees (Nobody x) h u e = clash u refl
 
-      pub after-agrees : (q : Request) → belongs G f s q ≡ true → Same G (f .sizes .interrupts) (after f m s q) (after g n t q)
-      after-agrees q b = rw (← decided-agrees q b, ← owner-agrees w r q) (acted-agrees (owner f s q) b (decided f m s q .effect))
+      pub after-agrees : (q : Request) → belongs G f s q ≡ true → Same G (f .sizes) (after f m s q) (after g n t q)
+      after-agrees q b = rw (← decided-agrees q b, ← owner-agrees w r q) (acted-agrees (owner f s q) (owner-below f s q) b (decided f m s q .effect))
 
 -- ---- one bridge
 
 module _ {G : PeNumber → Bool} {f : Tables} (c : Closed G f) where
-  -- whatever effect it has
-  acted-unseen : (n : ℕ) (s : Live) (o : Owner) → Below (f .sizes .pes) o → owned G o ≡ false → (e : Effect) → Same G n s (actBy f o e s)
+  -- whatever effect it has, but on the fence
+  acted-unseen : (s : Live) (o : Owner) → Below (f .sizes .pes) o → owned G o ≡ false → (e : Effect) → calm e ≡ true → Same G (f .sizes) s (actBy f o e s)
   unfolding actBy
-  acted-unseen n s (Of p) h out e = act-unseen (f .sizes .pes) (f .peers) p out (λ k b g. c .unlisted p k h b out g) s e
-  acted-unseen n s (Nobody r) h out e = same-refl s
+  acted-unseen s (Of p) h out e x = act-unseen (f .sizes) (f .peers) p h out (λ k b g. c .unlisted p k h b out g) s e x
+  acted-unseen s (Nobody r) h out e x = rw (whole-calm (f .sizes .pes) e x s) (same-refl s)
 
-  pub after-unseen : (n : ℕ) (s : Live) (q : Request) → belongs G f s q ≡ false → (e : Effect) → Same G n s (actBy f (owner f s q) e s)
-  after-unseen n s q out e = acted-unseen n s (owner f s q) (owner-below f s q) out e
+  pub after-unseen : (s : Live) (q : Request) → belongs G f s q ≡ false → (e : Effect) → calm e ≡ true → Same G (f .sizes) s (actBy f (owner f s q) e s)
+  after-unseen s q out e x = acted-unseen s (owner f s q) (owner-below f s q) out e x
 
 -- ---- the owner in what was checked
 
@@ -241,6 +251,21 @@ abbrev pub Placed : Owner → Checked → Type 0
 Placed o (Kept a) = Unit {0}
 Placed o (Ready p x) = o ≡ Of p
 Placed o (Walk p e q) = o ≡ Of p
+Placed o (Fences b) = Unit {0}
+
+-- what a request of nobody comes to: its refusal, or the fence cleared
+pub unowned-cases : (P : Checked → Type 0) (q : Request) (r : Reason) → P (Kept (refuse r)) → P (Fences false) → P (unowned q r)
+unfolding unowned
+unowned-cases P (Dma q) r k c = k
+unowned-cases P (Load a w) r k c = k
+unowned-cases P (Store a w) r k c = k
+unowned-cases P (Error q) r k c = k
+unowned-cases P (Clear p x) r k c = k
+unowned-cases P (End i) r k c = k
+unowned-cases P (Priority i n) r k c = k
+unowned-cases P (Fatal q) r k c = k
+unowned-cases P FenceClear r k c = c
+unowned-cases P Unnamed r k c = k
 
 module _ (z : Sizes) (installed : ℕ) (requesters entries windows segments : List ℕ) (s : Live) where
   served-owner : (c : classes.AddressClass) (p : PeNumber) (q : DmaRequest) → Placed (Of p) (served c (z .interrupts) installed entries (s .interrupts) p q)
@@ -259,15 +284,20 @@ module _ (z : Sizes) (installed : ℕ) (requesters entries windows segments : Li
   ask-owner p (Clear q c) = refl
   ask-owner p (End i) = refl
   ask-owner p (Priority i n) = refl
+  ask-owner p (Fatal r) = tt
+  ask-owner p FenceClear = tt
   ask-owner p Unnamed = tt
 
   asked-owner : (q : Request) (o : Owner) → Placed o (asked z installed requesters entries windows segments s q o)
   unfolding asked
   asked-owner q (Of p) = ask-owner p q
-  asked-owner q (Nobody r) = tt
+  asked-owner q (Nobody r) = unowned-cases (Placed (Nobody r)) q r tt tt
 
   pub checked-owner : (ok : Bool) (q : Request)
       → Placed (ownerIn z requesters windows segments (s .interrupts) q) (checked z installed requesters entries windows segments s ok q)
   unfolding checked
   checked-owner false q = tt
-  checked-owner true q = by-cases (formed q) (λ o. rw o (asked-owner q _)) (λ o. rw o tt)
+  checked-owner true q =
+      by-cases (formed q)
+      (λ o. rw o (by-cases (barred (at (s .state) (fenceWord (z .pes))) q) (λ b. rw b tt) (λ b. rw b (asked-owner q _))))
+      (λ o. rw o tt)

@@ -11,11 +11,13 @@
 --                         i the installed size
 --     dmaAsked k i e l w p q  a DMA of PE p whose stop word is w
 --     accessed h p w d    the answer to a load or store of PE p by its window h and its stop word w; d is that of a PE that is MMIO stopped
---     ask p q             what the request q of PE p comes to, as far as no memory is read; asked q o: by its owner o
---     checked ok .. q     ALL CHECKS BEFORE THE WALK: reason 1 (not ok), then 2, then the refusal that nobody gets (3, 10 or 14), then the rest
+--     ask p q             what the request q of PE p comes to, as far as no memory is read; unowned q r: of a request that belongs to nobody, r being the
+--                         refusal that it then gets. A fence clear needs no PE, and is not refused; asked q o: by its owner o
+--     gated q             a request that is well formed: 18 where the fence stops it, before anybody is looked up
+--     checked ok .. q     ALL CHECKS BEFORE THE WALK: reason 1 (not ok), then 2, then 18, then the refusal that nobody gets (3, 10 or 14), then the rest
 --     finish i m x        what is left: the walk, the only reader of memory; arrived i p q t: the outcome of a DMA by a translation and its words
---     act n v p e s       effect e at PE p, n being N and v the peers: it writes, and decides nothing; actBy f o e s: at the owner o, and none
---                         where it is nobody
+--     act n v p e s       effect e at PE p, n being N and v the peers: it writes, and decides nothing; whole n e s: what it does to the word that is no
+--                         PE's, the fence word; actBy f o e s: at the owner o, and that alone where it is nobody
 --     checkedOn f n s q   the checks on a bridge's tables, n being the length of memory
 --     decided f m s q     answer and effect
 --     answered f m s q    the answer
@@ -27,13 +29,14 @@ use Prim.Native.Nat.{ℕ, _+_, _%_}
 use lib.Dec.{leb, ltb, eqb}
 use lib.ListN.{length}
 use Rattle.kinds.specs.Answer.{refuse}
-use Rattle.kinds.specs.Checked.{Checked, Kept, Ready, Walk}
+use Rattle.kinds.specs.Checked.{Checked, Kept, Ready, Walk, Fences}
 use Rattle.kinds.specs.Number.{noWord, lastByte}
 use Rattle.kinds.specs.Outcome.{kept, passed, failed, done}
 use Rattle.kinds.specs.Words.{at}
 use Rattle.kinds.specs.declared.answer.Answer.{Answer}
 use Rattle.kinds.specs.declared.answer.Answer.the-variants.{Pass, Ones, Drop}
-use Rattle.kinds.specs.declared.answer.Reason.the-variants.{TableLength, BadRequest, DmaStopped, AddressClass, ErrorMessage, AboveInstalled}
+use Rattle.kinds.specs.declared.answer.Reason.{Reason}
+use Rattle.kinds.specs.declared.answer.Reason.the-variants.{TableLength, BadRequest, DmaStopped, AddressClass, MmioStopped, ErrorMessage, AboveInstalled}
 use Rattle.kinds.specs.declared.lookup.Hit.{Hit}
 use Rattle.kinds.specs.declared.lookup.Hit.the-variants.{At, Miss}
 use Rattle.kinds.specs.declared.lookup.Owner.{Owner}
@@ -43,7 +46,7 @@ use Rattle.kinds.specs.declared.lookup.Translated.the-variants.{To, Fault}
 use Rattle.kinds.specs.declared.number.ByteAddress.{ByteAddress}
 use Rattle.kinds.specs.declared.number.PeNumber.{PeNumber}
 use Rattle.kinds.specs.declared.outcome.Effect.{Effect}
-use Rattle.kinds.specs.declared.outcome.Effect.the-variants.{Keep, Freeze, Release, Interrupt}
+use Rattle.kinds.specs.declared.outcome.Effect.the-variants.{Keep, Freeze, Release, Interrupt, Fence}
 use Rattle.kinds.specs.declared.outcome.Outcome.{Outcome}
 use Rattle.kinds.specs.declared.record.Sizes.{Sizes}
 use Rattle.kinds.specs.declared.record.TranslationEntry.{TranslationEntry}
@@ -51,10 +54,11 @@ use Rattle.kinds.specs.declared.request.AddressClass.the-variants as class
 use Rattle.kinds.specs.declared.request.AddressClass as classes
 use Rattle.kinds.specs.declared.request.DmaRequest.{DmaRequest}
 use Rattle.kinds.specs.declared.request.Request.{Request}
-use Rattle.kinds.specs.declared.request.Request.the-variants.{Dma, Load, Store, Error, Clear, End, Priority, Unnamed}
+use Rattle.kinds.specs.declared.request.Request.the-variants.{Dma, Load, Store, Error, Clear, End, Priority, Fatal, FenceClear, Unnamed}
 use Rattle.profile.specs.Tables.{Tables, Live, lengths, sized}
 use Rattle.profile.specs.Owner.{ownerIn, owner}
 use Rattle.profile.specs.Freeze.{stopWord, mmioStopped, dmaStopped, taken, froze, released}
+use Rattle.profile.specs.Fence.{fenceWord, fenceTo, barred, shut}
 use Rattle.profile.specs.Entry.{classOf, half, offset, entryIn, walks, unwalked}
 use Rattle.profile.specs.Walk.{Translation, byPages}
 use Rattle.profile.specs.Msi.{holding, interrupt, stored, number32, number64, msiFormed, msi}
@@ -77,6 +81,8 @@ formed (Error r) = true
 formed (Clear p c) = true
 formed (End i) = true
 formed (Priority i n) = leb n holding
+formed (Fatal r) = true
+formed FenceClear = true
 formed Unnamed = false
 
 unfoldable pub installedTo : (installed : ℕ) → ByteAddress → (length : ℕ) → Bool
@@ -112,27 +118,41 @@ unfoldable pub accessed : Hit → PeNumber → (stop : ℕ) → Answer → Answe
 accessed (At n c) p w stopped = cond (mmioStopped w) stopped (Pass c p 0)
 accessed Miss p w stopped = stopped
 
+unfoldable pub unowned : Request → Reason → Checked
+unowned (Dma q) r = Kept (refuse r)
+unowned (Load a w) r = Kept (refuse r)
+unowned (Store a w) r = Kept (refuse r)
+unowned (Error q) r = Kept (refuse r)
+unowned (Clear p c) r = Kept (refuse r)
+unowned (End i) r = Kept (refuse r)
+unowned (Priority i n) r = Kept (refuse r)
+unowned (Fatal q) r = Kept (refuse r)
+unowned FenceClear r = Fences false
+unowned Unnamed r = Kept (refuse r)
+
 -- N, M and R, the installed size, the tables that are read before the walk, and what is written
 module _ (z : Sizes) (installed : ℕ) (requesters entries windows segments : List ℕ) (s : Live) where
   unfoldable pub ask : PeNumber → Request → Checked
   ask p (Dma q) = dmaAsked (z .interrupts) installed entries (s .interrupts) (at (s .state) (stopWord p)) p q
-  ask p (Load a w) = Kept (accessed (route windows segments a) p (at (s .state) (stopWord p)) (Ones (onesOf w)))
-  ask p (Store a w) = Kept (accessed (route windows segments a) p (at (s .state) (stopWord p)) Drop)
+  ask p (Load a w) = Kept (accessed (route windows segments a) p (at (s .state) (stopWord p)) (Ones MmioStopped (onesOf w)))
+  ask p (Store a w) = Kept (accessed (route windows segments a) p (at (s .state) (stopWord p)) (Drop MmioStopped))
   ask p (Error r) = Ready p (done (Freeze (record { reason = ErrorMessage; value = r; word = noWord }) true))
   ask p (Clear q c) = Ready p (done (Release c))
   ask p (End i) = Ready p (onGood (interrupt s i) (ends i (interrupt s i)))
   ask p (Priority i n) = Ready p (onGood (interrupt s i) (prioritized i n (interrupt s i)))
+  ask p (Fatal r) = Fences true
+  ask p FenceClear = Fences false
   ask p Unnamed = Kept (refuse BadRequest)
 
   unfoldable pub asked : Request → Owner → Checked
   asked q (Of p) = ask p q
-  asked q (Nobody r) = Kept (refuse r)
+  asked q (Nobody r) = unowned q r
+
+  abbrev pub gated : Request → Checked
+  gated q = cond (barred (at (s .state) (fenceWord (z .pes))) q) (Kept (shut q)) (asked q (ownerIn z requesters windows segments (s .interrupts) q))
 
   unfoldable pub checked : (ok : Bool) → Request → Checked
-  checked ok q =
-      cond ok
-      (cond (formed q) (asked q (ownerIn z requesters windows segments (s .interrupts) q)) (Kept (refuse BadRequest)))
-      (Kept (refuse TableLength))
+  checked ok q = cond ok (cond (formed q) (gated q) (Kept (refuse BadRequest))) (Kept (refuse TableLength))
 
 abbrev pub arrived : (installed : ℕ) → PeNumber → DmaRequest → Translation → Outcome
 arrived i p q t = reached i p q (t .result) (length (t .reads))
@@ -141,16 +161,25 @@ unfoldable pub finish : (installed : ℕ) → List ℕ → Checked → Outcome
 finish i m (Kept a) = kept a
 finish i m (Ready p o) = o
 finish i m (Walk p e q) = arrived i p q (byPages m e (q .direction) (offset (q .address)))
+finish i m (Fences b) = done (Fence b)
+
+unfoldable pub whole : (n : ℕ) → Effect → Live → Live
+whole n Keep s = s
+whole n (Freeze e b) s = s
+whole n (Release c) s = s
+whole n (Interrupt i k b) s = s
+whole n (Fence b) s = record { state = fenceTo n b (s .state); interrupts = s .interrupts }
 
 unfoldable pub act : (n : ℕ) → (peers : List ℕ) → PeNumber → Effect → Live → Live
 act n v p Keep s = s
 act n v p (Freeze e b) s = record { state = froze n (taken b v p) p e (s .state); interrupts = s .interrupts }
 act n v p (Release c) s = record { state = released c p (s .state); interrupts = s .interrupts }
 act n v p (Interrupt i k b) s = record { state = s .state; interrupts = stored p i k b (s .interrupts) }
+act n v p (Fence b) s = whole n (Fence b) s
 
 unfoldable pub actBy : Tables → Owner → Effect → Live → Live
 actBy f (Of p) e s = act (f .sizes .pes) (f .peers) p e s
-actBy f (Nobody r) e s = s
+actBy f (Nobody r) e s = whole (f .sizes .pes) e s
 
 abbrev pub checkedOn : Tables → (memory : ℕ) → Live → Request → Checked
 checkedOn f n s q =

@@ -7,12 +7,13 @@
 --                         of N, M and R; dmaLengths z l and
 --                         otherLengths z l, of the tables that a DMA reads before its walk and memory, and of the others
 --     entryWords ..       the words of a PE's translation entries, of one record, of a peer vector, of an interrupt, of a PE's state; of the windows
+--     fenceWords          the words of the state after those of the PEs: the fence word, which is no PE's; stateLength n: the words of the state of n PEs
 --     mostPes ..          the limits of N, M, R and memory
 --     named r n k         the PE with number k, or nobody with refusal r: k is a PE where it is below N
 -- Assumes nothing.
 use mathlib.Core.Bool.{Bool, cond}
 use mathlib.Core.List.{List, [], _∷_, _++_}
-use Prim.Native.Nat.{ℕ, _*_}
+use Prim.Native.Nat.{ℕ, _+_, _*_}
 use lib.Dec.{leb, ltb, eqb}
 use lib.ListN.{length}
 use Rattle.kinds.specs.Tests.{all}
@@ -56,6 +57,12 @@ segmentCount = 256
 abbrev pub stateWords : ℕ
 stateWords = 4
 
+abbrev pub fenceWords : ℕ
+fenceWords = 1
+
+abbrev pub stateLength : (pes : ℕ) → ℕ
+stateLength n = n * stateWords + fenceWords
+
 abbrev pub mostPes : ℕ
 mostPes = 256
 
@@ -98,7 +105,7 @@ otherLengths z l =
     ∷ eqb (l .interrupts) (z .interrupts * interruptWords)
     ∷ eqb (l .windows) windowWords
     ∷ eqb (l .segments) segmentCount
-    ∷ eqb (l .state) (z .pes * stateWords) ∷ []
+    ∷ eqb (l .state) (stateLength (z .pes)) ∷ []
 
 unfoldable pub sized : Sizes → Lengths → Bool
 sized z l = all (limits z ++ dmaLengths z l ++ otherLengths z l)

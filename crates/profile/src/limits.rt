@@ -11,6 +11,9 @@ pub const INTERRUPT_WORDS: u64 = 4;
 
 pub const STATE_WORDS: u64 = 4;
 
+// The words of the state after those of the PEs: the fence word.
+pub const FENCE_WORDS: u64 = 1;
+
 // The words of all windows: those of M32 first, then those of the M64 windows.
 pub const WINDOW_WORDS: u64 = 67;
 

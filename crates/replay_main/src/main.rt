@@ -41,7 +41,7 @@ fn piece(
     interrupts: &mut [u64; 256],
     windows: &mut [u64; 67],
     segments: &mut [u16; 256],
-    state: &mut [u64; 64],
+    state: &mut [u64; 65],
     line: &mut [u8; 128],
     out: &mut [u8; 356352],
 ) -> Turn {
@@ -93,7 +93,7 @@ fn last(
     interrupts: &mut [u64; 256],
     windows: &mut [u64; 67],
     segments: &mut [u16; 256],
-    state: &mut [u64; 64],
+    state: &mut [u64; 65],
     line: &mut [u8; 128],
     out: &mut [u8; 356352],
 ) {
@@ -130,7 +130,7 @@ fn main() {
     let mut interrupts = [0u64; 256];
     let mut windows = [0u64; 67];
     let mut segments = [0u16; 256];
-    let mut state = [0u64; 64];
+    let mut state = [0u64; 65];
     let mut line = [0u8; 128];
     let mut out = [0u8; 356352];
     let mut progress = replay_feed::start();

@@ -14,8 +14,8 @@ use Rattle.handle.specs.Promise.{Handled}
 use Rattle.tables.specs.Tables.{tables, live}
 use Rattle.table_lists.specs.Once.{once}
 use Rattle.profile.specs.Step.{answered, after}
-use Rattle.profile.specs.Tables.{Tables, Live, entryWords, peerWords, interruptWords, windowWords, segmentCount, stateWords}
-use Rattle.replay_tables.specs.Lent.{lent, inUse}
+use Rattle.profile.specs.Tables.{Tables, Live, entryWords, peerWords, interruptWords, windowWords, segmentCount}
+use Rattle.replay_tables.specs.Lent.{lent, stateUsed, inUse}
 use Rattle.replay_tables.specs.declared.Extent.{Extent}
 use Rattle.replay_text.specs.declared.Reply.{Reply}
 use Rattle.replay_text.specs.declared.Reply.the-variants.{Says}
@@ -30,7 +30,7 @@ module _ (f : Tables) (m : List ℕ) (s : Live) where
       Handled f m (live (take j (s .state)) (take i (s .interrupts))) q a (live ts ns) →
       (r : Numbers) → r ≡ numbered a →
       i ≡ min (f .sizes .interrupts * interruptWords) (length (s .interrupts)) →
-      j ≡ min (f .sizes .pes * stateWords) (length (s .state)) →
+      j ≡ min (stateUsed (f .sizes .pes)) (length (s .state)) →
       ServedParts f m s q (Says r) (live (ts ++ drop j (s .state)) (ns ++ drop i (s .interrupts)))
   served {q = q} {ns = ns} {ts = ts} {i = i} {j = j} h r e y l =
       let live-is : live (take j (s .state)) (take i (s .interrupts)) ≡ cutLive f s =

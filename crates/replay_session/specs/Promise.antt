@@ -15,8 +15,8 @@ use Rattle.kinds.specs.declared.request.Request.{Request}
 use Rattle.replay_text.specs.declared.Line.{Line}
 use Rattle.replay_text.specs.declared.Line.the-variants.{Request as RequestLine}
 use Rattle.profile.specs.Step.{answered, after}
-use Rattle.profile.specs.Tables.{Tables, Live, interruptWords, stateWords}
-use Rattle.replay_tables.specs.Lent.{Lent, inUse, lengthsIn, roomFor, front, servedIn, afterIn}
+use Rattle.profile.specs.Tables.{Tables, Live, interruptWords}
+use Rattle.replay_tables.specs.Lent.{Lent, stateUsed, inUse, lengthsIn, roomFor, front, servedIn, afterIn}
 use Rattle.replay_text.specs.declared.Reply.{Reply}
 use Rattle.replay_text.specs.declared.Reply.the-variants.{Says, NoRoom}
 use Rattle.replay_text.specs.Session.{replyTo}
@@ -35,12 +35,12 @@ Requested b q r c = (r ≡ replyTo (inUse b) (RequestLine q)) × (c ≡ servedIn
 
 -- the words of state and interrupts that a bridge with tables f has
 abbrev pub cutLive : Tables → Live → Live
-cutLive f s = record { state = take (f .sizes .pes * stateWords) (s .state); interrupts = take (f .sizes .interrupts * interruptWords) (s .interrupts) }
+cutLive f s = record { state = take (stateUsed (f .sizes .pes)) (s .state); interrupts = take (f .sizes .interrupts * interruptWords) (s .interrupts) }
 
 -- lists s, the words of which that are in use became t
 abbrev pub frontLive : Tables → Live → Live → Live
 frontLive f t s = record {
-  state = front (f .sizes .pes * stateWords) (t .state) (s .state);
+  state = front (stateUsed (f .sizes .pes)) (t .state) (s .state);
   interrupts = front (f .sizes .interrupts * interruptWords) (t .interrupts) (s .interrupts);
 }
 

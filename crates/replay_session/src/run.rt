@@ -7,7 +7,6 @@ use profile::limits::ENTRY_WORDS;
 use profile::limits::INTERRUPT_WORDS;
 use profile::limits::PEER_WORDS;
 use profile::limits::SEGMENT_COUNT;
-use profile::limits::STATE_WORDS;
 use profile::limits::WINDOW_WORDS;
 use replay_tables;
 use replay_tables::Extent;
@@ -56,7 +55,7 @@ fn serve_parts(
     ensures { λ r. ⌜ ServedParts (tables sizes replayInstalled (now (requesters .entry)) (now (entries .entry)) (now (peers .entry)) (now (windows .entry)) (now (segments .entry))) (now (memory .entry)) (live (now (state .entry)) (now (interrupts .entry))) request r (live (now (state .exit)) (now (interrupts .exit))) ⌝ }
 {
     let interrupt_end = table_lists::used(sizes.interrupts, INTERRUPT_WORDS, interrupts.len());
-    let state_end = table_lists::used(sizes.pes, STATE_WORDS, state.len());
+    let state_end = replay_tables::state_used(sizes.pes, state.len());
     let answer = handle::handle(
         sizes,
         INSTALLED,

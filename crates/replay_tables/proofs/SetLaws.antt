@@ -11,9 +11,9 @@ use lib.ListN.{take, set}
 use Rattle.kinds.specs.Tests.{by-cases}
 use Rattle.replay_text.specs.declared.Table.{Table}
 use Rattle.replay_text.specs.declared.Table.the-variants.{Requesters, Entries, Memory, Peers, Interrupts, Windows, Segments, State}
-use Rattle.profile.specs.Tables.{entryWords, peerWords, interruptWords, windowWords, segmentCount, stateWords}
+use Rattle.profile.specs.Tables.{entryWords, peerWords, interruptWords, windowWords, segmentCount}
 use Rattle.table_lists.specs.Once.{once}
-use Rattle.replay_tables.specs.Lent.{Lent, lent, inUse, listOf, withList}
+use Rattle.replay_tables.specs.Lent.{Lent, lent, stateUsed, inUse, listOf, withList}
 use Rattle.replay_tables.specs.Promise.{DidSet, SetPart, mayset}
 use Rattle.replay_text.specs.SessionTables.{tableOf, fits}
 use Rattle.replay_tables.specs.declared.Extent.{Extent}
@@ -62,6 +62,6 @@ module _ (x : Extent) (q e m p n w g t : List ℕ) (k : Table) (i v : ℕ) (r : 
   unfolding tableOf fits
   set-segments there z h d = rw h (put b Segments i v (once (x .sizes .pes) * segmentCount) g (ltb v (2 ^ 16)) (λ o. lent x q e m p n w o t) refl refl refl refl (rw z at d))
 
-  pub set-state : k ≡ State → SetPart (x .sizes .pes * stateWords) t i v true r l → DidSet b k i v r (lent x q e m p n w g l)
+  pub set-state : k ≡ State → SetPart (stateUsed (x .sizes .pes)) t i v true r l → DidSet b k i v r (lent x q e m p n w g l)
   unfolding tableOf fits
-  set-state h d = rw h (put b State i v (x .sizes .pes * stateWords) t true (λ o. lent x q e m p n w g o) refl refl refl refl d)
+  set-state h d = rw h (put b State i v (stateUsed (x .sizes .pes)) t true (λ o. lent x q e m p n w g o) refl refl refl refl d)

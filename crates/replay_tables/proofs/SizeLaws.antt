@@ -7,14 +7,14 @@
 use mathlib.Core.Path.{_≡_, refl, sym, _∙_}
 use mathlib.Core.Bool.{Bool, true, false}
 use mathlib.Core.List.{List}
-use Prim.Native.Nat.{ℕ, _*_, _/_, _<_, _≤_}
+use Prim.Native.Nat.{ℕ, _-_, _*_, _/_, _<_, _≤_}
 use native.Mathlib.Omega.{arith}
 use lib.Dec.{leb}
 use borrow.Author.Tests.{lt-leb, le-leb, leb-true, leb-false}
 use Rattle.kinds.specs.Tests.{and-true, by-cases}
 use Rattle.kinds.specs.declared.record.Lengths.{Lengths}
 use Rattle.replay_text.specs.declared.Line.the-variants.{Size}
-use Rattle.profile.specs.Tables.{entryWords, peerWords, interruptWords, stateWords, windowWords, segmentCount}
+use Rattle.profile.specs.Tables.{entryWords, peerWords, interruptWords, stateWords, fenceWords, stateLength, windowWords, segmentCount}
 use Rattle.tables.specs.Tables.{lengthsOf}
 use Rattle.replay_tables.specs.Lent.{Lent, lent, lengthsIn, peRoom, otherRoom, roomFor, cleared, sizeLine}
 use Rattle.replay_tables.specs.Promise.{SizedTo}
@@ -22,11 +22,11 @@ use Rattle.replay_tables.specs.declared.Extent.{Extent}
 use Rattle.replay_text.specs.declared.Reply.the-variants.{Silent, NoRoom}
 
 module _ (n k : ℕ) where
-  last-room : leb n (k / stateWords) ≡ leb (n * stateWords) k
-  last-room =
-      by-cases (leb n (k / stateWords))
-      (λ t. rw (t, le-leb (n * stateWords) k (omega (arith, leb-true n (k / stateWords) t))))
-      (λ t. rw (t, lt-leb (n * stateWords) k (omega (arith, leb-false n (k / stateWords) t))))
+  last-room : fenceWords ≤ k → leb n ((k - fenceWords) / stateWords) ≡ leb (stateLength n) k
+  last-room h =
+      by-cases (leb n ((k - fenceWords) / stateWords))
+      (λ t. rw (t, le-leb (stateLength n) k (omega (arith, leb-true n ((k - fenceWords) / stateWords) t))))
+      (λ t. rw (t, lt-leb (stateLength n) k (omega (arith, leb-false n ((k - fenceWords) / stateWords) t))))
 
 module _ (n : ℕ) (k : Lengths) where
   pub pe-entries : k .entries / entryWords < n → false ≡ peRoom n k
@@ -36,8 +36,14 @@ module _ (n : ℕ) (k : Lengths) where
     pub pe-peers : k .peers / peerWords < n → false ≡ peRoom n k
     pe-peers b = rw (le-leb (n * entryWords) (k .entries) (omega arith), lt-leb (n * peerWords) (k .peers) (omega arith))
 
-    pub pe-state : n ≤ k .peers / peerWords → leb n (k .state / stateWords) ≡ peRoom n k
-    pe-state b = rw (le-leb (n * entryWords) (k .entries) (omega arith), le-leb (n * peerWords) (k .peers) (omega arith)) (last-room n (k .state) ∙ sym (and-true _))
+    module _ (b : n ≤ k .peers / peerWords) where
+      pub pe-fence : k .state < fenceWords → false ≡ peRoom n k
+      pe-fence h =
+          rw (le-leb (n * entryWords) (k .entries) (omega arith), le-leb (n * peerWords) (k .peers) (omega arith), lt-leb (stateLength n) (k .state) (omega arith))
+
+      pub pe-state : fenceWords ≤ k .state → leb n ((k .state - fenceWords) / stateWords) ≡ peRoom n k
+      pe-state h =
+          rw (le-leb (n * entryWords) (k .entries) (omega arith), le-leb (n * peerWords) (k .peers) (omega arith)) (last-room n (k .state) h ∙ sym (and-true _))
 
 module _ (m r w : ℕ) (k : Lengths) where
   pub other-interrupts : k .interrupts / interruptWords < m → false ≡ otherRoom m r w k

@@ -1,6 +1,7 @@
 -- The lent tables of a replay, whole: every word of every lent list, and how many of them are in use.
 --     Extent              (of the code) what the last good size line asked for: N, M, R and the words of memory; zeros before the first one
 --     Lent, lent x q e .. the extent and the eight lent lists
+--     stateUsed n         how many words the state of n PEs has: none where there is no PE
 --     usedBy x t          how many words table t has in a bridge of extent x
 --     inUse b             the session that the words in use are: the first words of each list
 --     lengthsIn b         the lengths of the lent lists
@@ -26,7 +27,7 @@ use Rattle.replay_text.specs.declared.Line.the-variants.{Size, Set, Bad, Reques
 use Rattle.replay_text.specs.declared.Table.{Table}
 use Rattle.replay_text.specs.declared.Table.the-variants.{Requesters, Entries, Memory, Peers, Interrupts, Windows, Segments, State}
 use Rattle.profile.specs.Step.{after}
-use Rattle.profile.specs.Tables.{Live, entryWords, peerWords, interruptWords, windowWords, segmentCount, stateWords}
+use Rattle.profile.specs.Tables.{Live, entryWords, peerWords, interruptWords, windowWords, segmentCount, stateLength}
 use Rattle.tables.specs.Tables.{lengthsOf}
 use Rattle.table_lists.specs.Once.{once}
 use Rattle.replay_text.specs.SessionTables.{Session, session, sizesOf, settable}
@@ -59,6 +60,9 @@ lent x q e m p n w g t = record {
 abbrev pub extentOf : (n m r w : ℕ) → Extent
 extentOf n m r w = record { sizes = sizesOf n m r; memory = w }
 
+abbrev pub stateUsed : (pes : ℕ) → ℕ
+stateUsed n = once n * stateLength n
+
 abbrev pub usedBy : Extent → Table → ℕ
 usedBy x Requesters = x .sizes .requesters
 usedBy x Entries = x .sizes .pes * entryWords
@@ -67,7 +71,7 @@ usedBy x Peers = x .sizes .pes * peerWords
 usedBy x Interrupts = x .sizes .interrupts * interruptWords
 usedBy x Windows = once (x .sizes .pes) * windowWords
 usedBy x Segments = once (x .sizes .pes) * segmentCount
-usedBy x State = x .sizes .pes * stateWords
+usedBy x State = stateUsed (x .sizes .pes)
 
 abbrev pub listOf : Lent → Table → List ℕ
 listOf b Requesters = b .requesters
@@ -109,7 +113,7 @@ lengthsIn b =
 
 -- the tables with words for each PE; the others
 abbrev pub peRooms : (n : ℕ) → Lengths → List Bool
-peRooms n k = leb (n * entryWords) (k .entries) ∷ leb (n * peerWords) (k .peers) ∷ leb (n * stateWords) (k .state) ∷ []
+peRooms n k = leb (n * entryWords) (k .entries) ∷ leb (n * peerWords) (k .peers) ∷ leb (stateLength n) (k .state) ∷ []
 
 abbrev pub otherRooms : (m r w : ℕ) → Lengths → List Bool
 otherRooms m r w k =

@@ -8,7 +8,7 @@ use mathlib.Core.Path.{_≡_, refl}
 use mathlib.Core.List.{List, [], _∷_, _++_, map}
 use Prim.Native.Nat.{ℕ}
 use lib.ListN.{replicate}
-use Rattle.kinds.specs.declared.request.Request.the-variants.{Error, Priority}
+use Rattle.kinds.specs.declared.request.Request.the-variants.{Error, Priority, Fatal, FenceClear}
 use Rattle.profile.specs.Opened.{opened}
 use Rattle.profile.specs.Tables.{entryWords, peerWords, windowWords, segmentCount}
 use Rattle.replay_text.specs.SessionTables.{tableOf, fits}
@@ -37,8 +37,9 @@ lists q m n t =
 abbrev quiet : List ℕ
 quiet = 0 ∷ 0 ∷ 3 ∷ 0 ∷ 94 ∷ []
 
+-- the PE's words, the fence word, and a word that is not in use
 abbrev running : List ℕ
-running = 0 ∷ 0 ∷ 0 ∷ 6 ∷ 97 ∷ []
+running = 0 ∷ 0 ∷ 0 ∷ 6 ∷ 8 ∷ 97 ∷ []
 
 abbrev pub tables : Lent
 tables = lists (0 ∷ 90 ∷ []) (5 ∷ 6 ∷ 92 ∷ []) quiet running
@@ -54,7 +55,7 @@ emptied =
     (0 ∷ 0 ∷ 0 ∷ 0 ∷ 0 ∷ [])
     (zeros windowWords ++ (0 ∷ []))
     (zeros segmentCount ++ (0 ∷ []))
-    (0 ∷ 0 ∷ 0 ∷ 0 ∷ 0 ∷ [])
+    (0 ∷ 0 ∷ 0 ∷ 0 ∷ 0 ∷ 0 ∷ [])
 
 pub record LentCase : Type 0 where
   pub line : Line
@@ -83,10 +84,13 @@ lentCases =
     ∷ leaves (Set Windows 67 1) tables
     ∷ leaves (Set Segments 256 1) tables
     ∷ leaves (Set Segments 255 65536) tables
-    ∷ leaves (Set State 2 8) (lists (0 ∷ 90 ∷ []) (5 ∷ 6 ∷ 92 ∷ []) quiet (0 ∷ 0 ∷ 8 ∷ 6 ∷ 97 ∷ []))
-    ∷ leaves (Set State 3 8) (lists (0 ∷ 90 ∷ []) (5 ∷ 6 ∷ 92 ∷ []) quiet (0 ∷ 0 ∷ 0 ∷ 8 ∷ 97 ∷ []))
-    ∷ leaves (Set State 4 8) tables
-    ∷ leaves (Request (Error 0)) (lists (0 ∷ 90 ∷ []) (5 ∷ 6 ∷ 92 ∷ []) quiet (3 ∷ 12 ∷ 0 ∷ 0 ∷ 97 ∷ []))
+    ∷ leaves (Set State 2 8) (lists (0 ∷ 90 ∷ []) (5 ∷ 6 ∷ 92 ∷ []) quiet (0 ∷ 0 ∷ 8 ∷ 6 ∷ 8 ∷ 97 ∷ []))
+    ∷ leaves (Set State 3 8) (lists (0 ∷ 90 ∷ []) (5 ∷ 6 ∷ 92 ∷ []) quiet (0 ∷ 0 ∷ 0 ∷ 8 ∷ 8 ∷ 97 ∷ []))
+    ∷ leaves (Set State 4 9) (lists (0 ∷ 90 ∷ []) (5 ∷ 6 ∷ 92 ∷ []) quiet (0 ∷ 0 ∷ 0 ∷ 6 ∷ 9 ∷ 97 ∷ []))
+    ∷ leaves (Set State 5 8) tables
+    ∷ leaves (Request (Error 0)) (lists (0 ∷ 90 ∷ []) (5 ∷ 6 ∷ 92 ∷ []) quiet (3 ∷ 12 ∷ 0 ∷ 0 ∷ 8 ∷ 97 ∷ []))
+    ∷ leaves (Request (Fatal 0)) (lists (0 ∷ 90 ∷ []) (5 ∷ 6 ∷ 92 ∷ []) quiet (0 ∷ 0 ∷ 0 ∷ 6 ∷ 9 ∷ 97 ∷ []))
+    ∷ leaves (Request FenceClear) tables
     ∷ leaves (Request (Priority 0 9)) (lists (0 ∷ 90 ∷ []) (5 ∷ 6 ∷ 92 ∷ []) (0 ∷ 0 ∷ 9 ∷ 0 ∷ 94 ∷ []) running)
     ∷ leaves (Request (Priority 1 9)) tables
     ∷ leaves Bad tables

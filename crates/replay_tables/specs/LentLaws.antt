@@ -15,20 +15,15 @@ use lib.Dec.{leb, ltb}
 use lib.ListN.{length, take, drop, set, replicate, length-set, length-take, length-replicate, drop-of-length-le}
 use lib.Seq.{take-all, take-at, length-take-le, length-front, take-set-lt}
 use borrow.Author.Tests.{leb-true, leb-false, ltb-true, ne-eqb}
-use Rattle.kinds.specs.Tests.{and-left, and-right, all-true, by-cases, clash}
-use Rattle.kinds.specs.declared.lookup.Owner.{Owner}
-use Rattle.kinds.specs.declared.lookup.Owner.the-variants.{Of, Nobody}
-use Rattle.kinds.specs.declared.number.PeNumber.{PeNumber}
+use Rattle.kinds.specs.Tests.{and-left, and-right, all-true, by-cases}
 use Rattle.kinds.specs.declared.request.Request.{Request}
 use Rattle.replay_text.specs.declared.Line.{Line}
 use Rattle.replay_text.specs.declared.Line.the-variants.{Size, Set, Bad, Request as RequestLine}
 use Rattle.replay_text.specs.declared.Table.{Table}
 use Rattle.replay_text.specs.declared.Table.the-variants.{Requesters, Entries, Memory, Peers, Interrupts, Windows, Segments, State}
-use Rattle.profile.specs.Agree.{Same, owned}
-use Rattle.profile.specs.Owner.{owner}
-use Rattle.profile.specs.RequestLaws.{after-unseen}
-use Rattle.profile.specs.Step.{decided, after}
-use Rattle.profile.specs.Tables.{Tables, Live, entryWords, peerWords, interruptWords, windowWords, segmentCount, stateWords}
+use Rattle.profile.specs.EventLaws as events
+use Rattle.profile.specs.Step.{after}
+use Rattle.profile.specs.Tables.{Live, entryWords, peerWords, interruptWords, windowWords, segmentCount, stateLength}
 use Rattle.table_lists.specs.Once.{once}
 use Rattle.replay_tables.specs.Lent.{Lent, lent, extentOf, usedBy, listOf, usedOf, inUse, lengthsIn, peRooms, otherRooms, peRoom, otherRoom, roomFor, cleared, clearedTo, sizeLine, withList, front, servedIn, afterIn}
 use Rattle.replay_text.specs.SessionTables.{start, emptied, tableOf, fits, storedIn, stored, settable}
@@ -72,7 +67,8 @@ module _ (x : Extent) (b : Lent) (h : roomFor (sizeLine x) (lengthsIn b) ≡ tru
         there segmentCount,
         zeroed (x .sizes .pes * entryWords) (b .entries) (f 0 pes),
         zeroed (x .sizes .pes * peerWords) (b .peers) (f 1 pes),
-        zeroed (x .sizes .pes * stateWords) (b .state) (f 2 pes),
+        there (stateLength (x .sizes .pes)),
+        zeroed (stateLength (x .sizes .pes)) (b .state) (f 2 pes),
         zeroed (x .sizes .interrupts * interruptWords) (b .interrupts) (o 0 others),
         zeroed (x .sizes .requesters) (b .requesters) (o 1 others),
         zeroed (x .memory) (b .memory) (o 2 others),
@@ -101,18 +97,6 @@ module _ (b : Lent) (i v : ℕ) where
 
 -- ---- a request
 
-nobody : PeNumber → Bool
-nobody p = false
-
-none-owned : (o : Owner) → owned nobody o ≡ false
-unfolding nobody
-none-owned (Of p) = refl
-none-owned (Nobody r) = refl
-
-after-same : (f : Tables) (m : List ℕ) (s : Live) (q : Request) → Same nobody 0 s (after f m s q)
-unfolding nobody
-after-same f m s q = after-unseen (record { unlisted = λ p k h b o g. clash g refl }) 0 s q (none-owned (owner f s q)) (decided f m s q .effect)
-
 module _ (n : ℕ) (l k : List ℕ) (h : length k ≡ length (take n l)) where
   front-take : take n (front n k l) ≡ k
   front-take =
@@ -125,19 +109,19 @@ module _ (b : Lent) (q : Request) where
   abbrev left : Live
   left = after (inUse b .tables) (inUse b .memory) (inUse b .live) q
 
-  same : Same nobody 0 (inUse b .live) left
-  same = after-same (inUse b .tables) (inUse b .memory) (inUse b .live) q
+  same : (length (inUse b .live .state) ≡ length (left .state)) × (length (inUse b .live .interrupts) ≡ length (left .interrupts))
+  same = events.after-lengths (inUse b .tables) (inUse b .memory) (inUse b .live) q
 
   pub served-in-use : inUse (servedIn q b) ≡ record { tables = inUse b .tables; memory = inUse b .memory; live = left }
   served-in-use = rw (
-    front-take (usedBy (b .extent) Interrupts) (b .interrupts) (left .interrupts) (sym (same .interrupts-length)),
-    front-take (usedBy (b .extent) State) (b .state) (left .state) (sym (same .state-length)),
+    front-take (usedBy (b .extent) Interrupts) (b .interrupts) (left .interrupts) (sym (same .1)),
+    front-take (usedBy (b .extent) State) (b .state) (left .state) (sym (same .0)),
   )
 
   served-lengths : lengthsIn (servedIn q b) ≡ lengthsIn b
   served-lengths = rw (
-    length-front (b .interrupts) (left .interrupts) (usedBy (b .extent) Interrupts) (sym (same .interrupts-length)),
-    length-front (b .state) (left .state) (usedBy (b .extent) State) (sym (same .state-length)),
+    length-front (b .interrupts) (left .interrupts) (usedBy (b .extent) Interrupts) (sym (same .1)),
+    length-front (b .state) (left .state) (usedBy (b .extent) State) (sym (same .0)),
   )
 
 -- ---- lengths

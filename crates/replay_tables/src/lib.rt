@@ -4,6 +4,7 @@ mod table;
 
 use kinds::record::Sizes;
 use profile::limits::ENTRY_WORDS;
+use profile::limits::FENCE_WORDS;
 use profile::limits::INTERRUPT_WORDS;
 use profile::limits::PEER_WORDS;
 use profile::limits::SEGMENT_COUNT;
@@ -14,10 +15,14 @@ use replay_text::Table;
 use size::clear_all;
 use size::room_for;
 use table::set_short;
+use table::set_state;
 use table::set_word;
 use table_lists::once;
+use table_lists::used;
 use tables::sizes;
-ghost use Rattle.replay_tables.specs.Lent.{lent};
+ghost use mathlib.Core.Path.{_≡_};
+ghost use Prim.Native.Nat.{min};
+ghost use Rattle.replay_tables.specs.Lent.{stateUsed, lent};
 ghost use Rattle.replay_tables.specs.Promise.{DidSet, SizedTo};
 
 // What the last good size line asked for; zeros before the first one.
@@ -30,6 +35,20 @@ pub struct Extent {
 pub struct Replied {
     pub extent: Extent,
     pub reply: Reply,
+}
+
+// How many words of a state of this length are in use: those of the PEs, and the fence word after them; none where there is no PE.
+pub fn state_used(pes: u64, length: usize) -> usize
+    ensures { λ r. ⌜ r ≡ min (stateUsed pes) length ⌝ }
+{
+    if pes == 0 {
+        return 0;
+    }
+    let fence = used(pes, STATE_WORDS, length);
+    if fence < length {
+        return fence + FENCE_WORDS as usize;
+    }
+    fence
 }
 
 // A set line: a word of a table set where it is in use, or the answer to a bad line.
@@ -59,7 +78,7 @@ pub fn set_in(
         Table::Interrupts => set_word(interrupts, sizes.interrupts, INTERRUPT_WORDS, index, value),
         Table::Windows => set_word(windows, there, WINDOW_WORDS, index, value),
         Table::Segments => set_short(segments, there, SEGMENT_COUNT, index, value),
-        Table::State => set_word(state, sizes.pes, STATE_WORDS, index, value),
+        Table::State => set_state(state, sizes.pes, index, value),
     }
 }
 

@@ -1,6 +1,7 @@
 // A size line: whether the lent tables have room for what it asks, and all of them cleared.
 use kinds::record::Lengths;
 use profile::limits::ENTRY_WORDS;
+use profile::limits::FENCE_WORDS;
 use profile::limits::INTERRUPT_WORDS;
 use profile::limits::PEER_WORDS;
 use profile::limits::SEGMENT_COUNT;
@@ -13,7 +14,7 @@ ghost use lib.ListN.{length};
 ghost use Rattle.replay_text.specs.declared.Line.the-variants.{Size};
 ghost use Rattle.replay_tables.specs.Lent.{peRoom, otherRoom, roomFor, cleared};
 
-// Whether the tables with words for each PE are long enough.
+// Whether the tables with words for each PE are long enough; the state has the fence word too.
 fn pe_room(pes: u64, lengths: Lengths) -> bool
     ensures { λ r. ⌜ r ≡ peRoom pes lengths ⌝ }
 {
@@ -23,7 +24,10 @@ fn pe_room(pes: u64, lengths: Lengths) -> bool
     if lengths.peers / PEER_WORDS < pes {
         return false;
     }
-    pes <= lengths.state / STATE_WORDS
+    if lengths.state < FENCE_WORDS {
+        return false;
+    }
+    pes <= (lengths.state - FENCE_WORDS) / STATE_WORDS
 }
 
 // Whether the others are.

@@ -1,4 +1,5 @@
 // One lent table: a word of the part in use set.
+use crate::state_used;
 use replay_text::Reply;
 use replay_text::bad;
 use table_lists::used;
@@ -6,6 +7,7 @@ ghost use mathlib.Core.Path.{_≡_};
 ghost use mathlib.Core.Bool.{true};
 ghost use Prim.Native.Nat.{_*_, _^_};
 ghost use lib.Dec.{ltb};
+ghost use Rattle.replay_tables.specs.Lent.{stateUsed};
 ghost use Rattle.replay_tables.specs.Promise.{SetPart};
 
 // A word of 16 bits is below it.
@@ -18,6 +20,18 @@ pub(crate) fn set_word(table: &mut [u64], count: u64, each: u64, index: u64, val
     let end = used(count, each, table.len());
     if index < end as u64 {
         table[index as usize] = value;
+        return Reply::Silent;
+    }
+    Reply::Says(bad())
+}
+
+// The same of the state.
+pub(crate) fn set_state(state: &mut [u64], pes: u64, index: u64, value: u64) -> Reply
+    ensures { λ r. ⌜ SetPart (stateUsed pes) (now (state .entry)) index value true r (now (state .exit)) ⌝ }
+{
+    let end = state_used(pes, state.len());
+    if index < end as u64 {
+        state[index as usize] = value;
         return Reply::Silent;
     }
     Reply::Says(bad())

@@ -1,6 +1,7 @@
 pub mod Bytes
 pub mod Digits
 pub mod DigitsLaws
+pub mod EveryLine
 pub mod Field
 pub mod FieldLaws
 pub mod FormLaws
@@ -19,6 +20,7 @@ pub mod SessionWitness
 pub mod Stream
 pub mod Text
 pub mod TextCases
+pub mod TextIsolation
 pub mod TextLaws
 pub mod Whole
 pub mod WholeLaws

@@ -80,6 +80,11 @@ requests =
     ∷ ("end", Bad)
     ∷ ("prio\t7\t100", Request (Priority 7 0x100))
     ∷ ("prio\t7\t100\t0", Bad)
+    -- no line sets or clears the fence
+    ∷ ("fatal\t5", Bad)
+    ∷ ("fence", Bad)
+    ∷ ("unfence", Bad)
+    ∷ ("clear\t2\tfence", Bad)
     ∷ []
 
 -- numbers and fields

@@ -38,6 +38,8 @@ rows =
     ∷ ("size\t1\t0\t1\t1\nset\tmemory\t0\tffffffffffffffff\nset\tmemory\t1\t0\nset\trequesters\t0\t10000\nset\tsegments\tff\tffff\nset\tsegments\t100\t0\nset\twindows\t43\t0", "1\tbad\t0\t0000000000000000\t0\n2\tbad\t0\t0000000000000000\t0\n3\tbad\t0\t0000000000000000\t0\n4\tbad\t0\t0000000000000000\t0\n")
     -- 4 GiB are installed: a bypass up to its last byte, and one byte further, which freezes
     ∷ ("size\t1\t0\t1\t0\nset\ttranslation\t5\t200\nset\ttranslation\t6\t1\ndma\t0\tr\t8000000ffffffff\t1\t0\ndma\t0\tr\t800000100000000\t1\t0\ndma\t0\tr\t8000000ffffffff\t1\t0", "1\tpass\t0\t00000000ffffffff\t0\n2\trefuse\t17\t0000000000000000\t0\n3\trefuse\t4\t0000000000000000\t0\n")
+    -- the last word of the state is the fence word: a load, a store and an error message of a fenced bridge, firmware on it, and its fence cleared
+    ∷ ("size\t1\t0\t1\t0\nset\tstate\t4\t7\nset\tstate\t5\t0\nload\t0\t2\nstore\t0\t2\nerror\t0\nload\t0\t3\nclear\t0\tdma\nset\tstate\t4\t6\nload\t0\t2\n", "1\tbad\t0\t0000000000000000\t0\n2\tones\t18\t000000000000ffff\t0\n3\tdrop\t18\t0000000000000000\t0\n4\trefuse\t18\t0000000000000000\t0\n5\trefuse\t2\t0000000000000000\t0\n6\tdone\t0\t0000000000000000\t0\n7\trefuse\t10\t0000000000000000\t0\n")
     ∷ []
 
 abbrev headed : String → List ℕ

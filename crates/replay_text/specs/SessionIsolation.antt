@@ -14,15 +14,17 @@ use mathlib.Core.List.{List, [], _∷_, map}
 use Prim.Native.Nat.{ℕ}
 use Rattle.kinds.specs.Answer.{numbered}
 use Rattle.kinds.specs.Tests.{by-cases, clash}
+use Rattle.kinds.specs.Words.{at}
 use Rattle.kinds.specs.declared.answer.Answer.{Answer}
 use Rattle.kinds.specs.declared.number.PeNumber.{PeNumber}
 use Rattle.kinds.specs.declared.request.Request.{Request}
-use Rattle.isolation.specs.Isolation.{machine, own, left, isolation}
+use Rattle.isolation.specs.Isolation.{machine, placesIn, isolation}
 use Rattle.isolation.specs.Machine.{seen, end}
 use Rattle.isolation.specs.View.{Bridge, Written, View}
 use Rattle.replay_text.specs.declared.Line.{Line}
 use Rattle.replay_text.specs.declared.Line.the-variants.{Size, Set, Request as RequestLine, Bad}
 use Rattle.profile.specs.Agree.{Closed, belongs}
+use Rattle.profile.specs.Fence.{fenceWord}
 use Rattle.profile.specs.Step.{after}
 use Rattle.profile.specs.Tables.{Tables, Live}
 use Rattle.replay_text.specs.SessionTables.{Session}
@@ -64,10 +66,12 @@ linesLeft s (x ∷ l) = linesLeft (afterLine s x) l
 pub record SessionIsolation : Type 0 where
   -- a group of PEs, and two sessions whose tables agree as demand 3 asks
   pub isolated : (G : PeNumber → Bool) (s t : Session) → Closed G (s .tables) → View G (bridgeIn s) (bridgeIn t)
-      -- every two lists of request lines and bad lines in which the group's own requests are the same, in the same order
-      → (l k : List Line) → requestsOnly l ≡ true → requestsOnly k ≡ true → own G (bridgeIn s) (requestsIn l) ≡ own G (bridgeIn t) (requestsIn k)
-      -- each of them gets the same answer in both, and the group's stop bits, error records and interrupt records are equal after both
+      -- every two lists of request lines and bad lines in which the group's own requests are the same, in the same order. A fatal message or fence clear
+      -- that is answered done would have to stand at the same place in both; no line of a text is one (TextIsolation)
+      → (l k : List Line) → requestsOnly l ≡ true → requestsOnly k ≡ true → placesIn G (bridgeIn s) (requestsIn l) ≡ placesIn G (bridgeIn t) (requestsIn k)
+      -- each of them gets the same answer in both; the group's stop bits, error records and interrupt records are equal after both, and so is the fence word
       → (ownReplies G s l ≡ ownReplies G t k) × Written G (s .tables .sizes .interrupts) (linesLeft s l .live) (linesLeft t k .live)
+      × (at (linesLeft s l .live .state) (fenceWord (s .tables .sizes .pes)) ≡ at (linesLeft t k .live .state) (fenceWord (t .tables .sizes .pes)))
 
 -- ---- lines are requests
 
@@ -75,10 +79,10 @@ abbrev saying : Answer → Reply
 saying a = Says (numbered a)
 
 module _ (G : PeNumber → Bool) (f : Tables) (m : List ℕ) where
-  abbrev at : Live → Session
-  at v = record { tables = f; memory = m; live = v }
+  abbrev having : Live → Session
+  having v = record { tables = f; memory = m; live = v }
 
-  own-replies : (v : Live) (l : List Line) → requestsOnly l ≡ true → ownReplies G (at v) l ≡ map saying (seen (machine G f m) v (requestsIn l))
+  own-replies : (v : Live) (l : List Line) → requestsOnly l ≡ true → ownReplies G (having v) l ≡ map saying (seen (machine G f m) v (requestsIn l))
   unfolding requestsOnly requestsIn ownReplies replyTo afterLine
   own-replies v [] h = refl
   own-replies v (Size n w r x ∷ l) h = clash h refl
@@ -88,7 +92,7 @@ module _ (G : PeNumber → Bool) (f : Tables) (m : List ℕ) where
       by-cases (belongs G f v q) (λ o. rw (o, rest)) (λ o. rw (o, rest))
   own-replies v (Bad ∷ l) h = own-replies v l h
 
-  lines-left : (v : Live) (l : List Line) → requestsOnly l ≡ true → linesLeft (at v) l ≡ at (end (after f m) v (requestsIn l))
+  lines-left : (v : Live) (l : List Line) → requestsOnly l ≡ true → linesLeft (having v) l ≡ having (end (after f m) v (requestsIn l))
   unfolding requestsOnly requestsIn linesLeft afterLine
   lines-left v [] h = refl
   lines-left v (Size n w r x ∷ l) h = clash h refl
@@ -99,8 +103,11 @@ module _ (G : PeNumber → Bool) (f : Tables) (m : List ℕ) where
 pub session-isolation : SessionIsolation
 session-isolation = record {
   isolated = λ G s t c v l k h g e.
-      let both = isolation .isolated G (bridgeIn s) (bridgeIn t) c v (requestsIn l) (requestsIn k) e in (
+      let both = isolation .isolated G (bridgeIn s) (bridgeIn t) c v (requestsIn l) (requestsIn k) e in
+      let x = lines-left G (s .tables) (s .memory) (s .live) l h in
+      let y = lines-left G (t .tables) (t .memory) (t .live) k g in (
         own-replies G (s .tables) (s .memory) (s .live) l h ∙ ap (map saying) (both .0) ∙ sym (own-replies G (t .tables) (t .memory) (t .live) k g),
-        rw (lines-left G (s .tables) (s .memory) (s .live) l h, lines-left G (t .tables) (t .memory) (t .live) k g) (both .1),
+        rw (x, y) (both .1),
+        rw (x, y) (both .2),
       );
 }

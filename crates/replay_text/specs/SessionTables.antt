@@ -15,7 +15,7 @@ use lib.ListN.{length, set, replicate}
 use Rattle.kinds.specs.declared.record.Sizes.{Sizes}
 use Rattle.replay_text.specs.declared.Table.{Table}
 use Rattle.replay_text.specs.declared.Table.the-variants.{Requesters, Entries, Memory, Peers, Interrupts, Windows, Segments, State}
-use Rattle.profile.specs.Tables.{Tables, Live, entryWords, peerWords, interruptWords, windowWords, segmentCount, stateWords}
+use Rattle.profile.specs.Tables.{Tables, Live, entryWords, peerWords, interruptWords, windowWords, segmentCount, stateLength}
 
 pub record Session : Type 0 where
   pub tables : Tables
@@ -50,7 +50,7 @@ emptied n m r w =
     (zeros (m * interruptWords))
     (zeros windowWords)
     (zeros segmentCount)
-    (zeros (n * stateWords))
+    (zeros (stateLength n))
 
 abbrev pub start : Session
 start = session (sizesOf 0 0 0) [] [] [] [] [] [] [] []

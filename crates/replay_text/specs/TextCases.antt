@@ -10,7 +10,7 @@ use Rattle.replay_text.specs.Bytes.{bytes}
 use Rattle.kinds.specs.Answer.{numbered, refuse}
 use Rattle.kinds.specs.declared.answer.Answer.the-variants.{Pass, Msi, Held, Ones, Drop, Refuse, Done}
 use Rattle.kinds.specs.declared.answer.Numbers.{Numbers}
-use Rattle.kinds.specs.declared.answer.Reason.the-variants.{BadRequest, OutsideMemory}
+use Rattle.kinds.specs.declared.answer.Reason.the-variants.{BadRequest, MmioStopped, OutsideMemory, Fenced}
 use Rattle.replay_text.specs.Digits.{digits, placesFrom}
 use Rattle.replay_text.specs.Name.{nameOf}
 use Rattle.replay_text.specs.Text.{headOf, tailOf, answerLine, header, badNumbers}
@@ -29,8 +29,10 @@ unfoldable pub rows : List Row
 rows =
     record { n = 9; numbers = numbered (Msi 7 3 5); text = "9\tmsi\t0\t0000000000000007\t0\n" }
     ∷ record { n = 10; numbers = numbered (Held 0x7ff); text = "10\theld\t0\t00000000000007ff\t0\n" }
-    ∷ record { n = 99; numbers = numbered (Ones 0xffff); text = "99\tones\t11\t000000000000ffff\t0\n" }
-    ∷ record { n = 100; numbers = numbered Drop; text = "100\tdrop\t11\t0000000000000000\t0\n" }
+    ∷ record { n = 99; numbers = numbered (Ones MmioStopped 0xffff); text = "99\tones\t11\t000000000000ffff\t0\n" }
+    ∷ record { n = 98; numbers = numbered (Ones Fenced 0xff); text = "98\tones\t18\t00000000000000ff\t0\n" }
+    ∷ record { n = 100; numbers = numbered (Drop MmioStopped); text = "100\tdrop\t11\t0000000000000000\t0\n" }
+    ∷ record { n = 101; numbers = numbered (Drop Fenced); text = "101\tdrop\t18\t0000000000000000\t0\n" }
     ∷ record { n = 1000000; numbers = numbered (Refuse OutsideMemory 4 (record { 0 = 0x6028 })); text = "1000000\trefuse\t15\t0000000000000000\t4\n" }
     ∷ record { n = 18446744073709551615; numbers = numbered (refuse BadRequest); text = "18446744073709551615\trefuse\t2\t0000000000000000\t0\n" }
     ∷ record { n = 2; numbers = numbered Done; text = "2\tdone\t0\t0000000000000000\t0\n" }

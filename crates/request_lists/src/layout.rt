@@ -102,5 +102,11 @@ pub fn decode(kind: u64, a: u64, b: u64, c: u64, d: u64, e: u64) -> Request
             priority: b,
         };
     }
+    if kind == 7 {
+        return Request::Fatal { requester: a };
+    }
+    if kind == 8 {
+        return Request::FenceClear;
+    }
     Request::Unnamed
 }

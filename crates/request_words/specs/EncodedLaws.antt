@@ -16,7 +16,7 @@ use Rattle.kinds.specs.declared.request.Direction.the-variants.{Read, Write}
 use Rattle.kinds.specs.declared.request.Part.{Part}
 use Rattle.kinds.specs.declared.request.Part.the-variants as part
 use Rattle.kinds.specs.declared.request.Request.{Request}
-use Rattle.kinds.specs.declared.request.Request.the-variants.{Dma, Load, Store, Error, Clear, End, Priority, Unnamed}
+use Rattle.kinds.specs.declared.request.Request.the-variants.{Dma, Load, Store, Error, Clear, End, Priority, Fatal, FenceClear, Unnamed}
 use Rattle.request_words.specs.Layout.{requestWords, directionNumber, partNumber, encoded, wordsOf, Brought, decoded, decodedDma, decodedClear, decodedFrom, decodedAt, requestsFrom}
 
 -- ---- one request
@@ -42,6 +42,8 @@ first-back (Error r) h y = refl
 first-back (Clear p c) h y = clear-back p c
 first-back (End i) h y = refl
 first-back (Priority i n) h y = refl
+first-back (Fatal r) h y = refl
+first-back FenceClear h y = refl
 first-back Unnamed h y = refl
 
 from-after : (v y : List ℕ) → decodedFrom (v ++ y) (length v) ≡ decodedFrom y 0
@@ -69,6 +71,8 @@ length-encoded (Error r) = refl
 length-encoded (Clear p c) = refl
 length-encoded (End i) = refl
 length-encoded (Priority i n) = refl
+length-encoded (Fatal r) = refl
+length-encoded FenceClear = refl
 length-encoded Unnamed = refl
 
 pub length-wordsOf : (l : List Request) → length (wordsOf l) ≡ length l * requestWords

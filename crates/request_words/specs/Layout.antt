@@ -2,7 +2,8 @@
 --     requestWords, answerWords   the words of one request and of one answer
 --     encoded q                   the words of request q, its kind first:
 --                                 0 dma: requester, direction (0 read, 1 write), address, length, data; 1 load, 2 store: address, width;
---                                 3 error: requester; 4 clear: PE, part (0 mmio, 1 dma, 2 record); 5 end: interrupt; 6 priority: interrupt, priority.
+--                                 3 error: requester; 4 clear: PE, part (0 mmio, 1 dma, 2 record); 5 end: interrupt; 6 priority: interrupt, priority;
+--                                 7 fatal message: requester; 8 fence clear: nothing.
 --                                 2 ^ 64 - 1 is the kind of no request, now and later: `Unnamed` has it. directionNumber, partNumber: those numbers
 --     wordsOf l                   the words of the requests of list l, one after the other
 --     Brought l                   requests that a caller can bring: the data of each DMA of list l are below 2 ^ 32
@@ -34,7 +35,7 @@ use Rattle.kinds.specs.declared.request.DmaRequest.{DmaRequest}
 use Rattle.kinds.specs.declared.request.Part.{Part}
 use Rattle.kinds.specs.declared.request.Part.the-variants as part
 use Rattle.kinds.specs.declared.request.Request.{Request}
-use Rattle.kinds.specs.declared.request.Request.the-variants.{Dma, Load, Store, Error, Clear, End, Priority, Unnamed}
+use Rattle.kinds.specs.declared.request.Request.the-variants.{Dma, Load, Store, Error, Clear, End, Priority, Fatal, FenceClear, Unnamed}
 
 abbrev pub requestWords : ℕ
 requestWords = 8
@@ -61,6 +62,8 @@ encoded (Error r) = 3 ∷ r ∷ 0 ∷ 0 ∷ 0 ∷ 0 ∷ 0 ∷ 0 ∷ []
 encoded (Clear p c) = 4 ∷ p ∷ partNumber c ∷ 0 ∷ 0 ∷ 0 ∷ 0 ∷ 0 ∷ []
 encoded (End i) = 5 ∷ i ∷ 0 ∷ 0 ∷ 0 ∷ 0 ∷ 0 ∷ 0 ∷ []
 encoded (Priority i n) = 6 ∷ i ∷ n ∷ 0 ∷ 0 ∷ 0 ∷ 0 ∷ 0 ∷ []
+encoded (Fatal r) = 7 ∷ r ∷ 0 ∷ 0 ∷ 0 ∷ 0 ∷ 0 ∷ 0 ∷ []
+encoded FenceClear = 8 ∷ 0 ∷ 0 ∷ 0 ∷ 0 ∷ 0 ∷ 0 ∷ 0 ∷ []
 encoded Unnamed = (2 ^ 64 - 1) ∷ 0 ∷ 0 ∷ 0 ∷ 0 ∷ 0 ∷ 0 ∷ 0 ∷ []
 
 abbrev pub wordsOf : List Request → List ℕ
@@ -90,7 +93,9 @@ decoded k a b c d e =
     (cond (eqb k 3) (Error a)
     (cond (eqb k 4) (decodedClear a b)
     (cond (eqb k 5) (End a)
-    (cond (eqb k 6) (Priority a b) Unnamed))))))
+    (cond (eqb k 6) (Priority a b)
+    (cond (eqb k 7) (Fatal a)
+    (cond (eqb k 8) FenceClear Unnamed))))))))
 
 abbrev pub decodedFrom : List ℕ → ℕ → Request
 decodedFrom l i = decoded (at l i) (at l (i + 1)) (at l (i + 2)) (at l (i + 3)) (at l (i + 4)) (at l (i + 5))

@@ -17,7 +17,7 @@ use Rattle.kinds.specs.declared.request.Direction.{Direction}
 use Rattle.kinds.specs.declared.request.Direction.the-variants.{Read, Write}
 use Rattle.kinds.specs.declared.request.Part.the-variants as part
 use Rattle.kinds.specs.declared.request.Request.{Request}
-use Rattle.kinds.specs.declared.request.Request.the-variants.{Dma, Load, Store, Error, Clear, End, Priority, Unnamed}
+use Rattle.kinds.specs.declared.request.Request.the-variants.{Dma, Load, Store, Error, Clear, End, Priority, Fatal, FenceClear, Unnamed}
 use Rattle.request_words.specs.Layout.{encoded, Brought, decoded, decodedDma, decodedClear, decodedFrom, requestIn, numberList, writtenIn}
 
 abbrev pub eight : (a b c d e f g h : ℕ) → List ℕ
@@ -46,6 +46,8 @@ rows =
     ∷ row (Clear 11 part.Record) (eight 4 11 2 0 0 0 0 0)
     ∷ row (End 11) (eight 5 11 0 0 0 0 0 0)
     ∷ row (Priority 11 12) (eight 6 11 12 0 0 0 0 0)
+    ∷ row (Fatal 11) (eight 7 11 0 0 0 0 0 0)
+    ∷ row FenceClear (eight 8 0 0 0 0 0 0 0)
     ∷ row Unnamed (eight 0xFFFFFFFFFFFFFFFF 0 0 0 0 0 0 0)
     ∷ []
 
@@ -61,7 +63,8 @@ answer-holds = refl
 
 unfoldable pub nameless : List (List ℕ)
 nameless =
-    eight 11 1 1 1 1 1 1 1
+    eight 9 1 1 1 1 1 1 1
+    ∷ eight 10 1 1 1 1 1 1 1
     ∷ eight 99 1 1 1 1 1 1 1
     ∷ eight 0 5 2 0x3ABC 4 0 0 0
     ∷ eight 0 5 0 0x3ABC 4 0x100000000 0 0

@@ -19,7 +19,7 @@ use Rattle.kinds.specs.Words.{at}
 use Rattle.kinds.specs.declared.answer.Answer.{Answer}
 use Rattle.kinds.specs.declared.answer.Answer.the-variants.{Pass, Msi, Held, Ones, Drop, Refuse, Done}
 use Rattle.kinds.specs.declared.answer.Reason.{Reason}
-use Rattle.kinds.specs.declared.answer.Reason.the-variants.{TableLength, BadRequest, UnknownRequester, DmaStopped, AddressClass, BadEntry, OutsideWindow, TableWord, MsiRefused, NoWindow, MmioStopped, ErrorMessage, FrozenAsPeer, BadFirmware, OutsideMemory, AboveInstalled}
+use Rattle.kinds.specs.declared.answer.Reason.the-variants.{TableLength, BadRequest, UnknownRequester, DmaStopped, AddressClass, BadEntry, OutsideWindow, TableWord, MsiRefused, NoWindow, MmioStopped, ErrorMessage, FrozenAsPeer, BadFirmware, OutsideMemory, AboveInstalled, Fenced}
 use Rattle.request_words.specs.Layout.{requestWords, answerWords, decodedAt, requestIn, answerList, answersOf, over, wordsAt, written, writtenIn}
 
 pub request-in : (l : List ℕ) (k : ℕ) → k * requestWords + requestWords ≤ length l → requestIn l k ≡ decodedAt l k
@@ -34,7 +34,7 @@ reasons : List Reason
 reasons =
     TableLength ∷ TableLength ∷ BadRequest ∷ UnknownRequester ∷ DmaStopped ∷ AddressClass ∷ BadEntry ∷ OutsideWindow ∷ TableWord ∷ MsiRefused
     ∷ NoWindow ∷ MmioStopped ∷ ErrorMessage ∷ FrozenAsPeer ∷ BadFirmware ∷ OutsideMemory ∷ TableLength ∷ AboveInstalled
-    ∷ []
+    ∷ Fenced ∷ []
 
 reasonFrom : ℕ → Reason
 reasonFrom n = lib.ListN.getD reasons n TableLength
@@ -57,12 +57,13 @@ reason-back FrozenAsPeer = refl
 reason-back BadFirmware = refl
 reason-back OutsideMemory = refl
 reason-back AboveInstalled = refl
+reason-back Fenced = refl
 
 answerFrom : List ℕ → Answer
 answerFrom w =
     lib.ListN.getD
-    (Pass (record { 0 = at w 2 }) (record { 0 = at w 4 }) (at w 3) ∷ Msi (at w 2) (at w 5) (at w 6) ∷ Held (at w 2) ∷ Ones (at w 2) ∷ Drop
-    ∷ Refuse (reasonFrom (at w 1)) (at w 3) (record { 0 = at w 7 }) ∷ [])
+    (Pass (record { 0 = at w 2 }) (record { 0 = at w 4 }) (at w 3) ∷ Msi (at w 2) (at w 5) (at w 6) ∷ Held (at w 2)
+    ∷ Ones (reasonFrom (at w 1)) (at w 2) ∷ Drop (reasonFrom (at w 1)) ∷ Refuse (reasonFrom (at w 1)) (at w 3) (record { 0 = at w 7 }) ∷ [])
     (at w 0) Done
 
 answer-back : (a : Answer) → answerFrom (answerList a) ≡ a
@@ -70,8 +71,8 @@ unfolding answerFrom
 answer-back (Pass a p n) = refl
 answer-back (Msi n s p) = refl
 answer-back (Held n) = refl
-answer-back (Ones v) = refl
-answer-back Drop = refl
+answer-back (Ones r v) = rw (reason-back r)
+answer-back (Drop r) = rw (reason-back r)
 answer-back (Refuse r n w) = rw (reason-back r)
 answer-back Done = refl
 

@@ -1,6 +1,7 @@
 -- DEMAND 3, of a run over words.
---     ownRequests ..      the group's own requests, in order, of the first n that the request words w name
---     ownAnswers ..       the words of their answers, in order, in the answer words x; ownAnswersFrom ..: of n requests from request k
+--     runPlaces ..        the places of the first n requests that the request words w name: the group's own requests, and the fatal messages and fence clears
+--                         of others that are answered done, by their kind
+--     ownAnswers ..       the words of the answers to the own requests, in order, in the answer words x; ownAnswersFrom ..: of n requests from request k
 --     RunIsolation        THE CLAIM: `Isolation`, with words in the place of requests and answers
 --     run-isolation       THE THEOREM
 -- Assumes nothing.
@@ -12,12 +13,14 @@ use native.Mathlib.Nat.{suc-mul}
 use native.Mathlib.Omega.{arith}
 use lib.ListN.{length, drop, length-append}
 use Rattle.kinds.specs.Tests.{by-cases}
+use Rattle.kinds.specs.Words.{at}
 use Rattle.kinds.specs.declared.number.PeNumber.{PeNumber}
 use Rattle.kinds.specs.declared.request.Request.{Request}
-use Rattle.isolation.specs.Isolation.{machine, own, isolation, belongs-keeps}
+use Rattle.isolation.specs.Isolation.{machine, Place, placesIn, isolation, belongs-keeps}
 use Rattle.isolation.specs.Machine.{seen}
 use Rattle.isolation.specs.View.{Bridge, Written, View}
 use Rattle.profile.specs.Agree.{belongs, Closed}
+use Rattle.profile.specs.Fence.{fenceWord}
 use Rattle.profile.specs.Step.{answered, after}
 use Rattle.profile.specs.Tables.{Live}
 use Rattle.request_words.specs.Layout.{answerWords, decodedAt, requestsFrom, answerList, answersOf, wordsAt}
@@ -25,8 +28,8 @@ use Rattle.request_words.specs.LayoutLaws.{words-at}
 use Rattle.request_words.specs.Run.{served, ranTo, answersTo}
 use Rattle.request_words.specs.RunLaws.{room, ranTo-live, ranTo-answers}
 
-abbrev pub ownRequests : (PeNumber → Bool) → Bridge → (requests : List ℕ) → (n : ℕ) → List Request
-ownRequests G a w n = own G a (requestsFrom w 0 n)
+abbrev pub runPlaces : (PeNumber → Bool) → Bridge → (requests : List ℕ) → (n : ℕ) → List Place
+runPlaces G a w n = placesIn G a (requestsFrom w 0 n)
 
 abbrev pub ownAnswersFrom : (PeNumber → Bool) → Bridge → (requests answers : List ℕ) → (k n : ℕ) → List (List ℕ)
 ownAnswersFrom G a w x k zero = []
@@ -39,11 +42,13 @@ ownAnswers G a w x n = ownAnswersFrom G a w x 0 n
 pub record RunIsolation : Type 0 where
   pub isolated : (G : PeNumber → Bool) (a b : Bridge) → Closed G (a .tables) → View G a b
       -- request words w on the first bridge and v on the second, with answer words l and k
-      → (w v l k : List ℕ) → ownRequests G a w (served w l) ≡ ownRequests G b v (served v k)
+      → (w v l k : List ℕ) → runPlaces G a w (served w l) ≡ runPlaces G b v (served v k)
       → (ownAnswers G a w (ranTo (a .tables) (a .memory) w (a .live) l (served w l) .answers) (served w l)
       ≡ ownAnswers G b v (ranTo (b .tables) (b .memory) v (b .live) k (served v k) .answers) (served v k))
       × Written G (a .tables .sizes .interrupts) (ranTo (a .tables) (a .memory) w (a .live) l (served w l) .live)
       (ranTo (b .tables) (b .memory) v (b .live) k (served v k) .live)
+      × (at (ranTo (a .tables) (a .memory) w (a .live) l (served w l) .live .state) (fenceWord (a .tables .sizes .pes))
+      ≡ at (ranTo (b .tables) (b .memory) v (b .live) k (served v k) .live .state) (fenceWord (b .tables .sizes .pes)))
 
 -- ---- the words of the own answers are the own answers in words
 
@@ -78,8 +83,11 @@ pub run-isolation : RunIsolation
 unfolding told
 run-isolation = record {
   isolated = λ G a b c v w u l k e.
-      let both = isolation .isolated G a b c v (requestsFrom w 0 (served w l)) (requestsFrom u 0 (served u k)) e in (
+      let both = isolation .isolated G a b c v (requestsFrom w 0 (served w l)) (requestsFrom u 0 (served u k)) e in
+      let x = ranTo-live (a .tables) (a .memory) w (a .live) l (served w l) in
+      let y = ranTo-live (b .tables) (b .memory) u (b .live) k (served u k) in (
         own-answers G a w l (served w l) (room w l) ∙ ap (map answerList) (both .0) ∙ sym (own-answers G b u k (served u k) (room u k)),
-        rw (ranTo-live (a .tables) (a .memory) w (a .live) l (served w l), ranTo-live (b .tables) (b .memory) u (b .live) k (served u k)) (both .1),
+        rw (x, y) (both .1),
+        rw (x, y) (both .2),
       );
 }

@@ -2,6 +2,7 @@
 use kinds::record::Lengths;
 use kinds::record::Sizes;
 use profile::limits::ENTRY_WORDS;
+use profile::limits::FENCE_WORDS;
 use profile::limits::INTERRUPT_WORDS;
 use profile::limits::MOST_INTERRUPTS;
 use profile::limits::MOST_MEMORY;
@@ -101,5 +102,5 @@ fn other_tables(sizes: Sizes, lengths: Lengths) -> bool
     if lengths.segments != SEGMENT_COUNT {
         return false;
     }
-    lengths.state == sizes.pes * STATE_WORDS
+    lengths.state == sizes.pes * STATE_WORDS + FENCE_WORDS
 }

@@ -10,6 +10,12 @@ sized-requires c κs = search needs
 is-formed-requires : tie.Need-is-formed-requires
 is-formed-requires c κs = search needs
 
+fence-word-requires : tie.Need-fence-word-requires
+fence-word-requires c κs = search needs
+
+is-fenced-requires : tie.Need-is-fenced-requires
+is-fenced-requires c κs = search needs
+
 cast-ask : tie.Need-cast-ask
 cast-ask c = search laws.pes-fits
 
@@ -37,6 +43,8 @@ check-spec =
     (tie.spec
     sized-requires
     is-formed-requires
+    fence-word-requires
+    is-fenced-requires
     cast-ask
     ask-requires
     returns

@@ -49,6 +49,18 @@ same-length-3 c = search needs
 returns-4 : tie.Need-returns-4
 returns-4 c = search laws.interrupted
 
+enum-known-effect-4 : tie.Need-enum-known-effect-4
+enum-known-effect-4 c = search needs
+
+set-fence-requires : tie.Need-set-fence-requires
+set-fence-requires c κs = search needs
+
+same-length-4 : tie.Need-same-length-4
+same-length-4 c = search needs
+
+returns-5 : tie.Need-returns-5
+returns-5 c = search laws.fenced
+
 pub act-at-spec : {M : Type 1} → statement M
 act-at-spec =
     tie.close
@@ -67,4 +79,8 @@ act-at-spec =
     enum-known-effect-3
     store-requires
     same-length-3
-    returns-4)
+    returns-4
+    enum-known-effect-4
+    set-fence-requires
+    same-length-4
+    returns-5)

@@ -53,8 +53,17 @@ enum-known-request-7 c = search needs
 of-interrupt-requires-2 : tie.Need-of-interrupt-requires-2
 of-interrupt-requires-2 c κs = search needs
 
+enum-known-request-8 : tie.Need-enum-known-request-8
+enum-known-request-8 c = search needs
+
+of-requester-requires-3 : tie.Need-of-requester-requires-3
+of-requester-requires-3 c κs = search needs
+
 enum-told : tie.Need-enum-told
 enum-told c = search needs
+
+enum-told-2 : tie.Need-enum-told-2
+enum-told-2 c = search needs
 
 returns : tie.Need-returns
 unfolding ownerIn
@@ -88,6 +97,14 @@ returns-8 : tie.Need-returns-8
 unfolding ownerIn
 returns-8 c = search laws.owner-case
 
+returns-9 : tie.Need-returns-9
+unfolding ownerIn
+returns-9 c = search laws.owner-case
+
+returns-10 : tie.Need-returns-10
+unfolding ownerIn
+returns-10 c = search laws.owner-case
+
 pub owner-of-spec : {M : Type 1} → statement M
 owner-of-spec =
     tie.close
@@ -108,7 +125,10 @@ owner-of-spec =
     of-interrupt-requires
     enum-known-request-7
     of-interrupt-requires-2
+    enum-known-request-8
+    of-requester-requires-3
     enum-told
+    enum-told-2
     returns
     returns-2
     returns-3
@@ -116,4 +136,6 @@ owner-of-spec =
     returns-5
     returns-6
     returns-7
-    returns-8)
+    returns-8
+    returns-9
+    returns-10)

@@ -52,8 +52,8 @@ set-short-requires-2 c κs = search needs
 enum-told-8 : tie.Need-enum-told-8
 enum-told-8 c = search needs
 
-set-word-requires-6 : tie.Need-set-word-requires-6
-set-word-requires-6 c κs = search needs
+set-state-requires : tie.Need-set-state-requires
+set-state-requires c κs = search needs
 
 same-length : tie.Need-same-length
 same-length c = search needs
@@ -123,7 +123,7 @@ set-in-spec =
     enum-told-7
     set-short-requires-2
     enum-told-8
-    set-word-requires-6
+    set-state-requires
     same-length
     returns
     same-length-2

@@ -38,6 +38,12 @@ enum-known-request-4 c = search needs
 enum-told-4 : tie.Need-enum-told-4
 enum-told-4 c = search needs
 
+enum-told-5 : tie.Need-enum-told-5
+enum-told-5 c = search needs
+
+enum-told-6 : tie.Need-enum-told-6
+enum-told-6 c = search needs
+
 returns : tie.Need-returns
 unfolding formed
 returns c = search laws.formed-case
@@ -70,6 +76,14 @@ returns-8 : tie.Need-returns-8
 unfolding formed
 returns-8 c = search laws.formed-case
 
+returns-9 : tie.Need-returns-9
+unfolding formed
+returns-9 c = search laws.formed-case
+
+returns-10 : tie.Need-returns-10
+unfolding formed
+returns-10 c = search laws.formed-case
+
 pub is-formed-spec : {M : Type 1} → statement M
 is-formed-spec =
     tie.close
@@ -85,6 +99,8 @@ is-formed-spec =
     enum-told-3
     enum-known-request-4
     enum-told-4
+    enum-told-5
+    enum-told-6
     returns
     returns-2
     returns-3
@@ -92,4 +108,6 @@ is-formed-spec =
     returns-5
     returns-6
     returns-7
-    returns-8)
+    returns-8
+    returns-9
+    returns-10)

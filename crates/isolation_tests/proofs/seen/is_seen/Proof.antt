@@ -26,8 +26,8 @@ returns-3 : tie.Need-returns-3
 unfolding seen
 returns-3 c = search tests
 
-is-member-requires-2 : tie.Need-is-member-requires-2
-is-member-requires-2 c κs = search needs
+state-seen-requires : tie.Need-state-seen-requires
+state-seen-requires c κs = search needs
 
 returns-4 : tie.Need-returns-4
 unfolding seen
@@ -47,6 +47,6 @@ is-seen-spec =
     returns-2
     interrupt-seen-requires
     returns-3
-    is-member-requires-2
+    state-seen-requires
     returns-4
     returns-5)

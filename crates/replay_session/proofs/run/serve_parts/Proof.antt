@@ -8,8 +8,8 @@ use Rattle.replay_session.proofs.run.serve_parts.Tie as tie
 used-requires : tie.Need-used-requires
 used-requires c κs = search needs
 
-used-requires-2 : tie.Need-used-requires-2
-used-requires-2 c κs = search needs
+state-used-requires : tie.Need-state-used-requires
+state-used-requires c κs = search needs
 
 slice-relend-prefix-handle : tie.Need-slice-relend-prefix-handle
 slice-relend-prefix-handle c = search needs
@@ -43,7 +43,7 @@ serve-parts-spec =
     tie.close
     (tie.spec
     used-requires
-    used-requires-2
+    state-used-requires
     slice-relend-prefix-handle
     slice-aggregate-handle
     slice-relend-prefix-handle-2

@@ -43,6 +43,14 @@ returns-8 : tie.Need-returns-8
 unfolding decoded
 returns-8 c = search tests
 
+returns-9 : tie.Need-returns-9
+unfolding decoded
+returns-9 c = search tests
+
+returns-10 : tie.Need-returns-10
+unfolding decoded
+returns-10 c = search tests
+
 pub decode-spec : {M : Type 1} → statement M
 decode-spec =
     tie.close
@@ -56,4 +64,6 @@ decode-spec =
     returns-5
     returns-6
     returns-7
-    returns-8)
+    returns-8
+    returns-9
+    returns-10)

@@ -26,9 +26,12 @@ returns-4 c = search tests
 mul-result : tie.Need-mul-result
 mul-result c = search needs
 
+add-result : tie.Need-add-result
+add-result c = search needs
+
 returns-5 : tie.Need-returns-5
 returns-5 c = search (tests, and-true)
 
 pub other-tables-spec : {M : Type 1} → statement M
 other-tables-spec =
-    tie.close (tie.spec mul-if1 returns mul-if2 returns-2 returns-3 returns-4 mul-result returns-5)
+    tie.close (tie.spec mul-if1 returns mul-if2 returns-2 returns-3 returns-4 mul-result add-result returns-5)
