@@ -16,12 +16,14 @@ mod random;
 #[path = "../plain/replay.rs"]
 #[allow(dead_code)]
 mod replay;
+mod seeded;
 
 use celltimber::*;
-use plain_words::{answer_words, request_words, run_proved};
+use plain_words::{answer_words, run_proved};
 use random::Random;
 use replay::bridge::{self, Bridge, Name, Part, Request};
 use replay::{Line, INSTALLED};
+use seeded::{fence_word, lists, pe_of, stop_word, word, Asked, WRONG_LENGTHS};
 use std::fmt::LowerHex;
 use std::mem;
 use std::process::{exit, Command, Stdio};
@@ -30,24 +32,6 @@ use std::process::{exit, Command, Stdio};
 const UNWRITTEN: u64 = 0x5555_AAAA_5555_AAAA;
 
 // ---- Both bridges ----
-
-/// A request with its words.
-#[derive(Clone, Copy)]
-struct Asked {
-    request: Request,
-    words: RequestWords,
-}
-
-impl Asked {
-    fn of(request: Request) -> Asked {
-        Asked { request, words: request_words(request) }
-    }
-
-    /// Words that name no request are badly formed, as a load of width 0 is.
-    fn unnamed(words: RequestWords) -> Asked {
-        Asked { request: Request::Load { address: 0, width: 0 }, words }
-    }
-}
 
 /// How often each answer and each reason came, how often a peer was served after a refusal had
 /// frozen a PE that lists it, how often a walk stopped at a word of each kind, how often a freeze
@@ -419,21 +403,6 @@ fn left_over(tables: &Bridge) -> u64 {
     of_pes.filter(|words| words[1] == 0 && words[3] != 0).count() as u64
 }
 
-/// The stop word of a PE; 0 if the state has none.
-fn stop_word(tables: &Bridge, pe: u64) -> u64 {
-    word(&tables.state, STATE_WORDS as u64, pe, 0)
-}
-
-/// The fence word, after the words of N PEs; 0 if the state has none.
-fn fence_word(tables: &Bridge) -> u64 {
-    stop_word(tables, tables.n)
-}
-
-/// Whether the bit of a number below 256 is set in the peer vector of a PE.
-fn lists(tables: &Bridge, pe: u64, number: u64) -> bool {
-    number < MOST_PES && word(&tables.peers, 4, pe, number / 64) >> (number % 64) & 1 == 1
-}
-
 fn same<T: PartialEq + LowerHex>(name: &str, proved: &[T], plain: &[T]) -> Result<(), String> {
     for (k, (proved, plain)) in proved.iter().zip(plain).enumerate() {
         if proved != plain {
@@ -465,19 +434,6 @@ fn compare_text(text: &[u8], counts: &mut Counts) -> Result<(), String> {
 }
 
 // ---- Tables beyond the text ----
-
-impl Random {
-    /// Mostly a number below the limit; else the limit, a number that is it in fewer bits, or any.
-    fn mostly_below(&mut self, limit: u64) -> u64 {
-        let below = self.below(limit);
-        match self.below(40) {
-            0 => limit,
-            1 => (1 << self.pick(&[8, 16, 32])) + below,
-            2 => self.any(),
-            _ => below,
-        }
-    }
-}
 
 /// A pair of bridges, and requests on them.
 struct Generator {
@@ -514,8 +470,7 @@ impl Generator {
         let frequent = [random.below(m), random.below(m), m.saturating_sub(1)];
         let plain = Bridge::new(n, m, r, 0, words);
         let pair = Pair { proved: plain.clone(), plain, spared: Vec::new() };
-        let requester_of = vec![0; n as usize];
-        let mut generator = Generator { random, pair, requester_of, frequent };
+        let mut generator = Generator { random, pair, requester_of: Vec::new(), frequent };
         generator.fill();
         generator.pair.plain.installed = generator.installed();
         generator.pair.proved = generator.pair.plain.clone();
@@ -541,7 +496,7 @@ impl Generator {
         let mut tries = 20;
         loop {
             let requester = self.requester();
-            let asked = self.dma(requester, self.pe_of(requester));
+            let asked = self.dma(requester, pe_of(&self.pair.plain, requester));
             let last = last_byte(&mut self.pair.plain, asked.request);
             tries -= 1;
             if last.is_some() || tries == 0 {
@@ -554,40 +509,7 @@ impl Generator {
 
     fn fill(&mut self) {
         let (random, t) = (&mut self.random, &mut self.pair.plain);
-        let (n, memory_words) = (t.n, t.memory.len() as u64);
-        for (k, pe) in t.requesters.iter_mut().enumerate() {
-            *pe = random.mostly_below(n) as u16;
-            if u64::from(*pe) < n {
-                self.requester_of[*pe as usize] = k as u64;
-            }
-        }
-        for record in t.translation.chunks_mut(4) {
-            record.copy_from_slice(&entry(random, memory_words));
-        }
-        for word in &mut t.memory {
-            *word = table_word(random, memory_words);
-        }
-        let dense = random.percent(30);
-        for word in &mut t.peers {
-            *word = random.next() & random.next() & random.next();
-            if !dense {
-                *word &= random.next() & random.next() & random.next();
-            }
-        }
-        // PE N is not there, and many list it.
-        for vector in t.peers.chunks_mut(4).filter(|_| n < MOST_PES) {
-            vector[n as usize / 64] |= random.below(2) << (n % 64);
-        }
-        for record in t.interrupts.chunks_mut(4) {
-            record.copy_from_slice(&interrupt(random, n));
-        }
-        t.windows[..3].copy_from_slice(&m32(random));
-        for (k, window) in t.windows[3..].chunks_mut(4).enumerate() {
-            window.copy_from_slice(&m64(random, k as u64, n));
-        }
-        for pe in &mut t.segments {
-            *pe = random.mostly_below(n) as u16;
-        }
+        self.requester_of = seeded::fill(random, t);
         for words in t.state.chunks_exact_mut(STATE_WORDS) {
             words[0] = random.next() & !3;
             if random.percent(20) {
@@ -596,34 +518,13 @@ impl Generator {
             }
         }
         // Mostly with bits above the fence.
-        t.state[bridge::fence_place(n)] =
+        t.state[bridge::fence_place(t.n)] =
             random.next() & random.pick(&[0, !FENCE, !FENCE, u64::MAX]);
     }
 
     /// One number or length off its rule; the kinds are counted from 0.
     fn put_wrong_length(&mut self, kind: u64) {
-        let (random, t) = (&mut self.random, &mut self.pair.plain);
-        let longer = kind % 2 == 0;
-        match kind {
-            0 | 1 => resize(&mut t.requesters, longer),
-            2 | 3 => resize(&mut t.translation, longer),
-            4 | 5 => resize(&mut t.peers, longer),
-            6 | 7 => resize(&mut t.interrupts, longer),
-            8 | 9 => resize(&mut t.windows, longer),
-            10 | 11 => resize(&mut t.segments, longer),
-            12 | 13 => resize(&mut t.state, longer),
-            14 => t.memory.resize(1_048_577, 3),
-            // The numbers alone.
-            15 => t.n = random.pick(&[0, t.n - 1, t.n + 1, 257, (1 << 62) + t.n]),
-            16 => t.m = random.pick(&[t.m + 1, MOST_INTERRUPTS + 1, (1 << 62) + t.m]),
-            17 => t.r = random.pick(&[0, t.r - 1, t.r + 1, 65_537, (1 << 32) + t.r]),
-            // One past a limit, with lengths that agree.
-            18 => *t = Bridge::new(257, t.m, t.r, t.installed, 1_024),
-            19 => *t = Bridge::new(t.n, MOST_INTERRUPTS + 1, t.r, t.installed, 1_024),
-            20 => *t = Bridge::new(t.n, t.m, 65_537, t.installed, 1_024),
-            21 => *t = Bridge::new(0, t.m, t.r, t.installed, 1_024),
-            _ => *t = Bridge::new(t.n, t.m, 0, t.installed, 1_024),
-        }
+        seeded::put_wrong_length(&mut self.random, &mut self.pair.plain, kind);
         self.pair.proved = self.pair.plain.clone();
     }
 
@@ -661,10 +562,8 @@ impl Generator {
         self.random.mostly_below(r)
     }
 
-    /// The PE of a requester; 0 if the table has none.
-    fn pe_of(&self, requester: u64) -> u64 {
-        let at = usize::try_from(requester).unwrap_or(usize::MAX);
-        self.pair.plain.requesters.get(at).map_or(0, |&pe| u64::from(pe))
+    fn dma(&mut self, requester: u64, pe: u64) -> Asked {
+        seeded::dma(&mut self.random, &self.pair.plain, requester, pe)
     }
 
     fn interrupt(&mut self) -> u64 {
@@ -694,7 +593,7 @@ impl Generator {
         let mut asked = match self.random.below(22) {
             0..=7 => {
                 let requester = self.requester();
-                let pe = self.pe_of(requester);
+                let pe = pe_of(&self.pair.plain, requester);
                 all.extend(self.release(pe, Part::Dma));
                 self.dma(requester, pe)
             }
@@ -703,11 +602,11 @@ impl Generator {
                 let pe = word(&self.pair.plain.interrupts, 4, number, 0);
                 let requester = word(&self.requester_of, 1, pe, 0);
                 all.extend(self.release(pe, Part::Dma));
-                self.msi(requester, number)
+                seeded::msi(&mut self.random, requester, number)
             }
-            11..=13 => self.access(),
+            11..=13 => seeded::access(&mut self.random, &self.pair.plain),
             14 => Asked::of(Request::Error { requester: self.requester() }),
-            15 => self.clear(),
+            15 => seeded::clear(&mut self.random, self.pair.plain.n),
             16 => Asked::of(Request::End { interrupt: self.interrupt() }),
             17 | 18 => {
                 let priority = self.random.pick(&[0, 5, 254, 255, 255, 256, u64::MAX]);
@@ -715,7 +614,7 @@ impl Generator {
             }
             19 => Asked::of(Request::Fatal { requester: self.requester() }),
             20 => Asked::of(Request::FenceClear),
-            _ => self.no_request(),
+            _ => seeded::no_request(&mut self.random),
         };
         // The last two words of a request are not read.
         asked.words[6] = self.random.next();
@@ -723,200 +622,10 @@ impl Generator {
         all.push(asked);
         all
     }
-
-    fn dma(&mut self, requester: u64, pe: u64) -> Asked {
-        let random = &mut self.random;
-        let second = random.below(2);
-        let record =
-            [0, 1, 2, 3].map(|k| word(&self.pair.plain.translation, 8, pe, 4 * second + k));
-        let offset = match record[3] {
-            // A bypass: near its start or end.
-            0 => {
-                let edge = record[random.below(2) as usize] << 24;
-                edge.wrapping_add(random.pick(&[0, 0x1000, u64::MAX]))
-            }
-            code => {
-                let index_bits = record[2].wrapping_add(8);
-                let bits = record[1].wrapping_mul(index_bits).wrapping_add(code).wrapping_add(11);
-                let size = 1 << (bits & 63);
-                let past = if random.percent(4) { size } else { 0 };
-                // Often the last byte of its page.
-                let end =
-                    if random.percent(15) { (1 << (code.wrapping_add(11) & 63)) - 1 } else { 0 };
-                past | end | random.next() & (size - 1)
-            }
-        };
-        let mut address = offset & ((1 << 59) - 1) | second << 59;
-        if random.percent(3) {
-            address = random.next();
-        }
-        let room = 4_096 - address % 4_096;
-        let length = match random.below(20) {
-            0 => random.pick(&[0, room + 1, 4_097, u64::MAX]),
-            1 => room,
-            _ => random.between(1, room),
-        };
-        let data = random.next() as u32;
-        Asked::of(Request::Dma { requester, write: random.percent(50), address, length, data })
-    }
-
-    fn msi(&mut self, requester: u64, number: u64) -> Asked {
-        let random = &mut self.random;
-        let in_data = number & 31 & random.next();
-        let in_address = (number & !in_data) << 4 | random.below(4) << 2;
-        let mut address = if random.percent(50) {
-            0xFFFF_0000 | in_address & 0xFFFF
-        } else {
-            1 << 60 | random.next() >> 4 & !0xF_FFFF | in_address & 0xF_FFFF
-        };
-        let (mut write, mut length) = (true, 4);
-        match random.below(20) {
-            0 => write = false,
-            1 => length = random.between(1, 3),
-            2 => address |= 1,
-            _ => {}
-        }
-        let data = (random.next() & 0xFFFF_FFE0 | in_data) as u32;
-        Asked::of(Request::Dma { requester, write, address, length, data })
-    }
-
-    /// A load or a store in a window, or just past it.
-    fn access(&mut self) -> Asked {
-        let random = &mut self.random;
-        let at = if random.percent(30) { 0 } else { 3 + 4 * random.below(16) };
-        let base = word(&self.pair.plain.windows, 1, at, 0);
-        let size = word(&self.pair.plain.windows, 1, at, 1);
-        let offset = match random.below(10) {
-            0 => size,
-            1 => size.wrapping_sub(1),
-            2 => u64::MAX,
-            _ => random.below(size),
-        };
-        let width = random.pick(&[1, 2, 4, 8, 8, 8, 8, 8, 8, 8, 8, 3, 0, 16]);
-        let mut address = base.wrapping_add(offset);
-        if random.percent(90) {
-            address &= !7;
-        }
-        if random.percent(50) {
-            Asked::of(Request::Load { address, width })
-        } else {
-            Asked::of(Request::Store { address, width })
-        }
-    }
-
-    fn clear(&mut self) -> Asked {
-        let part = [Part::Mmio, Part::Dma, Part::Record][self.random.below(3) as usize];
-        let n = self.pair.plain.n;
-        Asked::of(Request::Clear { pe: self.random.mostly_below(n), part })
-    }
-
-    /// Words that name no request: the kind, a direction, a part or data off its limit.
-    fn no_request(&mut self) -> Asked {
-        let random = &mut self.random;
-        let (kind, place, least) = match random.below(4) {
-            0 => (FENCE_CLEAR + 1, 0, FENCE_CLEAR + 1),
-            1 => (DMA, 2, 2),
-            2 => (DMA, 5, 1 << 32),
-            _ => (CLEAR, 2, 3),
-        };
-        let mut words = [0; REQUEST_WORDS].map(|_: u64| random.below(8));
-        words[0] = kind;
-        words[place] = random.pick(&[least, least + 1, 1 << 32, u64::MAX]);
-        Asked::unnamed(words)
-    }
-}
-
-/// Word `place` of record `number`; 0 if the table has none.
-fn word(table: &[u64], record_words: u64, number: u64, place: u64) -> u64 {
-    let at = u128::from(record_words) * u128::from(number) + u128::from(place);
-    usize::try_from(at).ok().and_then(|at| table.get(at)).copied().unwrap_or(0)
-}
-
-/// One word longer or shorter.
-fn resize<T: Clone + Default>(table: &mut Vec<T>, longer: bool) {
-    let length = table.len();
-    table.resize(if longer || length == 0 { length + 1 } else { length - 1 }, T::default());
-}
-
-/// A translation entry: pages, a bypass, or one word of it off.
-fn entry(random: &mut Random, memory_words: u64) -> [u64; 4] {
-    let page_code = random.pick(&[1, 5, 13, 17]);
-    let table_code = match random.below(4) {
-        0 => random.between(1, 31),
-        1 => random.between(1, 4),
-        _ => 1,
-    };
-    let (page_bits, index_bits) = (page_code + 11, table_code + 8);
-    let levels = random.between(1, ((59 - page_bits) / index_bits).clamp(1, 5));
-    let base = random.below(memory_words >> index_bits) << (index_bits + 3);
-    let mut record = [base, levels, table_code, page_code];
-    if random.percent(25) {
-        let (a, b) = (random.below((1 << 35) + 1), random.below((1 << 35) + 1));
-        record = [a.min(b), a.max(b), random.between(1, 31), 0];
-    }
-    if random.percent(12) {
-        let word = random.pick(&[0, 6, 32, 33, 0x800, (1 << 32) + 1, (1 << 35) + 1, u64::MAX]);
-        record[random.below(4) as usize] = word;
-    }
-    record
-}
-
-/// A table word: mostly one that leads to a table in memory, which as a last word passes too.
-fn table_word(random: &mut Random, memory_words: u64) -> u64 {
-    match random.below(12) {
-        0 => 0,
-        1 if random.percent(50) => u64::MAX,
-        1 => random.next(),
-        2 => random.next() & !3,
-        _ => {
-            let bits = random.pick(&[9, 9, 10, 11, 12]);
-            let table = random.below(memory_words >> bits) << (bits + 3);
-            table | random.next() & 0xFFC | random.pick(&[1, 2, 3, 3, 3])
-        }
-    }
-}
-
-fn interrupt(random: &mut Random, n: u64) -> [u64; 4] {
-    let priority = random.pick(&[0, 5, 254, 255, 255]);
-    let mut record = [random.mostly_below(n), random.below(1 << 24), priority, random.below(4)];
-    if random.percent(8) {
-        let word = random.pick(&[4, 256, 1 << 24, 1 << 32, u64::MAX]);
-        record[random.below(4) as usize] = word;
-    }
-    record
-}
-
-fn m32(random: &mut Random) -> [u64; 3] {
-    let bits = random.between(19, 33);
-    let size = 1 << bits;
-    let pci = random.below((1 << 32) / size) * size;
-    let mut window = [random.any() >> bits << bits, size, pci];
-    if random.percent(15) {
-        window[random.below(3) as usize] = random.any();
-    }
-    window
-}
-
-fn m64(random: &mut Random, number: u64, n: u64) -> [u64; 4] {
-    let bits = random.pick(&[27, 28, 28, 32, 36, 40, 50, 50, 51]);
-    let base = match random.below(4) {
-        0 => u64::MAX,
-        1 => random.any(),
-        _ => number << 51,
-    };
-    let mode = random.pick(&[1, 1, 1, 2, 2, 2, 0, 3]);
-    let mut window = [base >> bits << bits, 1 << bits, mode, random.mostly_below(n)];
-    if random.percent(8) {
-        window[random.below(4) as usize] = random.any();
-    }
-    window
 }
 
 /// Bridges to each seed, beside the replay text.
 const BRIDGES: u64 = 6;
-
-/// The kinds of wrong lengths; each seed has one.
-const WRONG_LENGTHS: u64 = 23;
 
 /// Requests on one bridge, one by one and then in one list.
 fn compare_bridge(seed: u64, number: u64, counts: &mut Counts) -> Result<(), String> {
@@ -957,7 +666,7 @@ fn compare_sizes(
     generator.pair.ask(&Asked::of(Request::FenceClear), counts)?;
     for _ in 0..dmas {
         let (asked, last) = generator.dma_in_reach();
-        let pe = generator.pe_of(asked.words[1]);
+        let pe = pe_of(&generator.pair.plain, asked.words[1]);
         let release = Asked::of(Request::Clear { pe, part: Part::Dma });
         let last = last.unwrap_or(generator.random.any());
         let near = [last.saturating_sub(1), last, last.saturating_add(1), last.saturating_add(2)];

@@ -18,7 +18,7 @@ use std::process::exit;
 /// The families, from left to right in the figure: the crates of each, a * for the rest of a name.
 /// A name in full goes before one with a *.
 const FAMILIES: [(&str, &str); 10] = [
-    ("values and definition", "kinds outcomes profile isolation"),
+    ("values and definition", "kinds outcomes profile isolation history"),
     ("tables", "table*"),
     ("DMA", "dma*"),
     ("MSI and firmware", "msi* firmware*"),

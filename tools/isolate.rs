@@ -20,70 +20,21 @@ mod plain_words;
 #[path = "../plain/replay.rs"]
 #[allow(dead_code)]
 mod replay;
+#[allow(dead_code)]
+mod replay_file;
 
 use celltimber::*;
 use owner_tables::OwnerTables;
-use plain_words::{request_words, run_proved};
 use replay::bridge::{self, fence_place, Bridge};
-use replay::{Line, Outcome, Table};
+use replay::Table;
+use replay_file::{aligned, answers, finish, read, shown, File};
 use std::env;
-use std::fs;
-use std::io::{self, Write};
 use std::process::exit;
 
 /// A bit vector: PE k is bit k mod 64 of word k div 64.
 type Group = [u64; 4];
 
 const NO_GROUP: Group = [0; 4];
-
-// ---- Files ----
-
-struct RequestLine {
-    number: usize,
-    text: String,
-    words: RequestWords,
-}
-
-/// A replay file: its size line, the tables after its set lines, and its requests. A bad line
-/// changes nothing and belongs to nobody. The installed size is that of the replay program.
-struct File {
-    name: String,
-    size: (usize, String),
-    tables: Bridge,
-    requests: Vec<RequestLine>,
-}
-
-fn read(name: &str) -> Result<File, String> {
-    let bytes = fs::read(name).unwrap_or_else(|error| stop(&format!("{}: {}", name, error)));
-    let mut size = None;
-    let mut tables = Bridge::default();
-    let mut requests: Vec<RequestLine> = Vec::new();
-    for (place, line) in bytes.split(|&byte| byte == b'\n').enumerate() {
-        let number = place + 1;
-        let text = String::from_utf8_lossy(line).replace('\t', " ");
-        let parsed = replay::parse(line);
-        if let Some(Line::Ask(request)) = parsed {
-            requests.push(RequestLine { number, text, words: request_words(request) });
-            continue;
-        }
-        if replay::take(&mut tables, line) == Outcome::Bad {
-            continue;
-        }
-        if let Some(Line::Size { .. }) = parsed {
-            size = Some((number, text));
-        }
-        if let Some(first) = requests.first() {
-            return Err(format!(
-                "size and set lines before the first request: {} has line {} after the request in line {}",
-                name, number, first.number
-            ));
-        }
-    }
-    match size {
-        None => Err(format!("a size line: {} has none that is good", name)),
-        Some(size) => Ok(File { name: name.to_string(), size, tables, requests }),
-    }
-}
 
 // ---- Premises ----
 
@@ -196,51 +147,12 @@ fn same_own(files: &[File; 2], own: &[Vec<(usize, u64)>; 2]) -> Result<(), Strin
 
 // ---- Answers ----
 
-/// All answers of a file; its tables are left as the requests leave them.
-fn answers(file: &mut File) -> Vec<AnswerWords> {
-    let requests = file.requests.iter().flat_map(|line| line.words).collect::<Vec<_>>();
-    let mut answers = vec![0; file.requests.len() * ANSWER_WORDS];
-    let count = run_proved(&mut file.tables, &requests, &mut answers);
-    if count != file.requests.len() {
-        stop(&format!("{}: {} of {} requests served", file.name, count, file.requests.len()));
-    }
-    answers.chunks_exact(ANSWER_WORDS).map(|x| x.try_into().unwrap()).collect()
-}
-
-/// Answer, reason, value and words as the replay text has them; then PE, server and priority, or the
-/// word that a walk stopped at.
-fn shown(answer: &AnswerWords) -> String {
-    let [name, reason, value, words, pe, server, priority, word] = *answer;
-    let names = ["pass", "msi", "held", "ones", "drop", "refuse", "done"];
-    let first = format!("{} {} {:016x} {}", names[name as usize], reason, value, words);
-    match (name, reason) {
-        (PASS, _) => format!("{} PE {:x}", first, pe),
-        (MSI, _) => format!("{} server {:x} priority {:x}", first, server, priority),
-        (_, REASON_TABLE_WORD | REASON_OUTSIDE_MEMORY) => {
-            format!("{} word {:x}", first, word)
-        }
-        _ => first,
-    }
-}
-
 /// Whether the group's stop bits, error records and interrupt records are equal, and the fence word.
 fn same_afterwards(files: &[File; 2], group: &Group) -> bool {
     let written = [(Table::State, "state"), (Table::Interrupts, "interrupts")];
     let Bridge { n, interrupts, .. } = &files[0].tables;
     same_words(files, &written, |table, i| seen(*n, interrupts, &[], group, table as u64, i))
         .is_ok()
-}
-
-/// Rows as lines, each column as wide as its widest field.
-fn aligned(rows: &[Vec<String>]) -> String {
-    let widths = (0..rows[0].len())
-        .map(|k| rows.iter().map(|row| row[k].len()).max().unwrap())
-        .collect::<Vec<_>>();
-    let line = |row: &Vec<String>| {
-        let fields = row.iter().zip(&widths).map(|(field, &width)| format!("{:width$}", field));
-        format!("{}\n", fields.collect::<Vec<_>>().join("  ").trim_end())
-    };
-    rows.iter().map(line).collect()
 }
 
 /// What is printed, and whether all is the same; or the premise that fails.
@@ -319,13 +231,5 @@ fn main() {
     let [group, first, second] = &arguments[..] else {
         stop("usage: isolate GROUP FILE FILE");
     };
-    let (text, same) = match compare(group, [first, second]) {
-        Ok(compared) => compared,
-        Err(premise) => (format!("premise fails: {}\n", premise), false),
-    };
-    let mut output = io::stdout();
-    if let Err(error) = output.write_all(text.as_bytes()).and_then(|()| output.flush()) {
-        stop(&format!("standard output: {}", error));
-    }
-    exit(i32::from(!same))
+    finish(compare(group, [first, second]))
 }

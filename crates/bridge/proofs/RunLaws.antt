@@ -8,6 +8,7 @@ use native.Mathlib.Omega.{arith}
 use lib.ListN.{length}
 use Rattle.kinds.specs.declared.answer.Answer.{Answer}
 use Rattle.kinds.specs.declared.request.Request.{Request}
+use Rattle.history.specs.Release.{released}
 use Rattle.isolation.specs.Isolation.{isolation}
 use Rattle.profile.specs.Tables.{Tables, Live}
 use Rattle.request_words.specs.Layout.{requestWords, answerWords, decodedAt, requestIn, written, writtenIn}
@@ -15,6 +16,7 @@ use Rattle.request_words.specs.LayoutLaws.{request-in, written-in}
 use Rattle.bridge.specs.Promise.{Handled, RanAll}
 use Rattle.request_words.specs.RunIsolation.{run-isolation}
 use Rattle.request_words.specs.RunOfList.{run-of-list}
+use Rattle.request_words.specs.RunRelease.{run-released}
 use Rattle.request_words.specs.Run.{RunState, runState, ranOne, ranTo, served}
 use Rattle.tables.specs.Tables.{live}
 
@@ -55,4 +57,13 @@ module _ (f : Tables) (m w : List ℕ) (s : Live) (l₀ : List ℕ) where
   all-ran {n = n} {k = k} e a b h =
       let z : k ≡ served w l₀ = omega (arith, e) in
       let r = rw z at h in
-      record { count = e; leaves = ap (λ (x : RunState). x .live) r; answers = ap (λ (x : RunState). x .answers) r; isolation = isolation; words-isolation = run-isolation; of-list = run-of-list }
+      record {
+        count = e;
+        leaves = ap (λ (x : RunState). x .live) r;
+        answers = ap (λ (x : RunState). x .answers) r;
+        of-list = run-of-list;
+        isolation = isolation;
+        words-isolation = run-isolation;
+        release = released;
+        words-release = run-released;
+      }

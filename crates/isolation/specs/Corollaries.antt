@@ -18,7 +18,7 @@ use mathlib.Core.Bool.{Bool, true, false, cond, not, _&&_}
 use mathlib.Core.List.{List, [], _∷_, map}
 use mathlib.Core.Option.{Option, none, some}
 use Rattle.kinds.specs.Answer.{refuse, isDone}
-use Rattle.kinds.specs.Tests.{by-cases, clash, and-left, and-right}
+use Rattle.kinds.specs.Tests.{by-cases, clash, and-left, and-right, given}
 use Rattle.kinds.specs.declared.answer.Answer.{Answer}
 use Rattle.kinds.specs.declared.answer.Reason.the-variants.{TableLength}
 use Rattle.kinds.specs.declared.number.PeNumber.{PeNumber}
@@ -30,7 +30,7 @@ use Rattle.profile.specs.Agree.{belongs, obeyed, Closed}
 use Rattle.profile.specs.AgreeLaws.{alike-refl, same-refl, held-refl}
 use Rattle.profile.specs.AnswersLaws.{unsized-answered, unsized-keeps}
 use Rattle.isolation.specs.Machine.{chosen}
-use Rattle.isolation.specs.Labels.{labelled, labelsBy, labels-chosen}
+use Rattle.isolation.specs.Labels.{labelsBy, labels-chosen}
 use Rattle.isolation.specs.View.{Bridge, bridgeLengths, Public, Written, View}
 use Rattle.isolation.specs.ViewLaws.{agreed, viewed}
 use Rattle.isolation.specs.Isolation.{Place, Own, place, placesIn, own, answers, left, fence, place-keeps, places-start, run-agrees, isolation}
@@ -46,7 +46,7 @@ pub one-bridge : (G : PeNumber → Bool) (a : Bridge) → Closed G (a .tables) �
 one-bridge G a c l k e = isolation .isolated G a a c (view-refl G a) l k e
 
 abbrev pub heard : (PeNumber → Bool) → Bridge → List Request → List Request
-heard G a l = chosen (λ q. labelled (place G (a .tables) (a .memory) (a .live) q)) l
+heard G a l = chosen (λ q. given (place G (a .tables) (a .memory) (a .live) q)) l
 
 pub as-if-alone : (G : PeNumber → Bool) (a : Bridge) → Closed G (a .tables) → (l : List Request) → Answered G a a l (heard G a l)
 as-if-alone G a c l =
@@ -75,19 +75,19 @@ isolated-start G a b c v l k e = isolation .isolated G a b c v l k (places-start
 
 abbrev pub quiet : List Request → Bool
 quiet [] = true
-quiet (q ∷ l) = not (labelled (kind q)) && quiet l
+quiet (q ∷ l) = not (given (kind q)) && quiet l
 
 -- such a request has a place where it is the group's own
-unlabelled : (o : Option Event) (b : Bool) → not (labelled o) ≡ true → cond b o none ≡ none
-unlabelled none true h = refl
-unlabelled none false h = refl
-unlabelled (some e) b h = clash h refl
+kindless : (o : Option Event) (b : Bool) → not (given o) ≡ true → cond b o none ≡ none
+kindless none true h = refl
+kindless none false h = refl
+kindless (some e) b h = clash h refl
 
 quiet-by : (G : PeNumber → Bool) (a : Bridge) (l : List Request) → quiet l ≡ true → placesBy G a l ≡ map Own (own G a l)
 quiet-by G a [] h = refl
 quiet-by G a (q ∷ l) h =
-    let none-here = unlabelled (kind q) (isDone (answered (a .tables) (a .memory) (a .live) q)) (and-left (not (labelled (kind q))) (quiet l) h) in
-    let rest = quiet-by G a l (and-right (not (labelled (kind q))) (quiet l) h) in
+    let none-here = kindless (kind q) (isDone (answered (a .tables) (a .memory) (a .live) q)) (and-left (not (given (kind q))) (quiet l) h) in
+    let rest = quiet-by G a l (and-right (not (given (kind q))) (quiet l) h) in
     by-cases (belongs G (a .tables) (a .live) q) (λ o. rw (o, rest)) (λ o. rw (o, none-here, rest))
 
 pub quiet-same : (G : PeNumber → Bool) (a b : Bridge) (l k : List Request) → quiet l ≡ true → quiet k ≡ true → own G a l ≡ own G b k

@@ -19,7 +19,7 @@ use mathlib.Core.List.{List, [], _∷_}
 use mathlib.Core.Option.{Option, none, some}
 use Prim.Native.Nat.{ℕ}
 use native.Mathlib.Omega.{arith}
-use Rattle.kinds.specs.Tests.{by-cases, clash, option-cases, none-some}
+use Rattle.kinds.specs.Tests.{by-cases, clash, given, option-cases, none-some}
 use Rattle.kinds.specs.Words.{at}
 use Rattle.kinds.specs.declared.answer.Answer.{Answer}
 use Rattle.kinds.specs.declared.number.PeNumber.{PeNumber}
@@ -37,7 +37,7 @@ use Rattle.profile.specs.EventLaws.{free-calm, obeyed-does, obeyed-keeps}
 use Rattle.profile.specs.OwnerLaws.{owner-keeps}
 use Rattle.profile.specs.RequestLaws.{vector-agrees, answered-agrees, after-agrees, after-unseen}
 use Rattle.isolation.specs.Machine.{Machine, Laws, seen, end, chosen}
-use Rattle.isolation.specs.Labels.{labelled, labels, labelsBy, watched, SameLabel, labels-start, unwound-labels}
+use Rattle.isolation.specs.Labels.{labels, labelsBy, watched, SameLabel, labels-start, unwound-labels}
 use Rattle.isolation.specs.View.{Bridge, Written, View, Agreed}
 use Rattle.isolation.specs.ViewLaws.{agreed, written}
 
@@ -100,7 +100,7 @@ own-other : {P : Type 0} {q : Request} {e : Event} → Own q ≡ Other e → P
 own-other h = absurd (let z : _≡_ {A = ℕ} 0 1 = cc in omega arith)
 
 module _ (G : PeNumber → Bool) (f : Tables) (m : List ℕ) (s : Live) (q : Request) where
-  pub own-placed : belongs G f s q ≡ true → labelled (place G f m s q) ≡ true
+  pub own-placed : belongs G f s q ≡ true → given (place G f m s q) ≡ true
   own-placed o = rw o
 
   -- it is the group's own, or an event that is obeyed
@@ -114,7 +114,7 @@ module _ (G : PeNumber → Bool) (f : Tables) (m : List ℕ) (s : Live) (q : Req
       (λ e i. let z : some (Other e) ≡ some x = rw (o, i) at h in theirs e o i (cc)))
 
   -- a request without a place is not seen
-  free-unseen : Closed G f → labelled (place G f m s q) ≡ false → Same G (f .sizes) s (after f m s q)
+  free-unseen : Closed G f → given (place G f m s q) ≡ false → Same G (f .sizes) s (after f m s q)
   free-unseen c h =
       by-cases (belongs G f s q)
       (λ o. clash (own-placed o) h)
@@ -143,7 +143,7 @@ module _ {G : PeNumber → Bool} {f g : Tables} {m n : List ℕ} (c : Closed G f
     event-step q p e o o′ i j =
         (rw (o, o′), rw (obeyed-does f m s q e i, obeyed-does g n t p e j, ← w .sizes) (whole-agrees r (Fence (fenceBit e))))
 
-    step-agrees : (q p : Request) → SameLabel (place G f m) (place G g n) s t q p → labelled (place G f m s q) ≡ true
+    step-agrees : (q p : Request) → SameLabel (place G f m) (place G g n) s t q p → given (place G f m s q) ≡ true
         → (first .answer s q ≡ second .answer t p) × Same G (f .sizes) (after f m s q) (after g n t p)
     step-agrees q p e k =
         option-cases (place G f m s q) (λ i. clash k (rw i)) (λ x i.

@@ -1,6 +1,5 @@
 -- Two lists that are compared by labels: some requests have to stand at the same places in both though they are not owned, and of those only the
 -- label has to be the same. Above `Machine` and `Unwind`, which do not know of it. No bridge is named here.
---     labelled o          there is a label
 --     labels next label s l   the labels of a list, in order, each by the state that its request meets; a request without one is passed over
 --     watched m label     the machine m, whose requests with a label stand in pairs; of one that m does not own the answer is not looked at
 --     SameLabel           two requests match by having the same label
@@ -11,20 +10,16 @@
 --                         and those of the requests with a label alone
 -- Assumes nothing.
 use mathlib.Core.Path.{_≡_, refl, sym, ap, _∙_, fun-ext}
-use mathlib.Core.Bool.{Bool, true, false, cond}
+use mathlib.Core.Bool.{true, cond}
 use mathlib.Core.List.{List, [], _∷_}
 use mathlib.Core.Option.{Option, none, some}
 use Prim.Native.Nat.{ℕ}
 use native.Mathlib.Omega.{arith}
-use Rattle.kinds.specs.Tests.{by-cases, option-cases}
+use Rattle.kinds.specs.Tests.{by-cases, given, option-cases}
 use Rattle.isolation.specs.Machine.{Machine, Laws, Pairs, OfMet, end, seen, met, chosen}
 use Rattle.isolation.specs.Unwind.{unwound}
 
 module _ {X : Type 0} where
-  abbrev pub labelled : Option X → Bool
-  labelled none = false
-  labelled (some x) = true
-
   -- a list with one more in front, if there is one
   abbrev pub joined : Option X → List X → List X
   joined none l = l
@@ -46,7 +41,7 @@ module _ {S Q A X : Type 0} where
   watched m label = record {
     next = m .next;
     answer = λ s q. cond (m .own s q) (some (m .answer s q)) none;
-    own = λ s q. labelled (label s q);
+    own = λ s q. given (label s q);
   }
 
   module _ (m n : Machine S Q A) (a b : S → Q → Option X) where
@@ -71,7 +66,7 @@ module _ {S Q A X : Type 0} where
         (λ y o′. let z : x ∷ labels (m .next) a (m .next s q) l ≡ y ∷ labels (n .next) b (n .next t p) k = rw o′ at e in
         let u : x ≡ y = cc in
         let v : a s q ≡ b t p = o ∙ ap some u ∙ sym o′ in
-        let i : labelled (b t p) ≡ true = rw o′ in
+        let i : given (b t p) ≡ true = rw o′ in
         rw i (v, rest (n .next t p) k (cc)))
 
     pub label-pairs : (s t : S) (l k : List Q) → labels (m .next) a s l ≡ labels (n .next) b t k
@@ -80,20 +75,20 @@ module _ {S Q A X : Type 0} where
     label-pairs s t (q ∷ l) k e =
         option-cases (a s q)
         (λ o. rw o (label-pairs (m .next s q) t l k (rw o at e)))
-        (λ x o. let i : labelled (a s q) ≡ true = rw o in rw i (one-left s t q x l k o (λ t′ k′. label-pairs (m .next s q) t′ l k′) (rw o at e)))
+        (λ x o. let i : given (a s q) ≡ true = rw o in rw i (one-left s t q x l k o (λ t′ k′. label-pairs (m .next s q) t′ l k′) (rw o at e)))
 
-  pub seen-watched : (m : Machine S Q A) (a : S → Q → Option X) → ((s : S) (q : Q) → m .own s q ≡ true → labelled (a s q) ≡ true)
+  pub seen-watched : (m : Machine S Q A) (a : S → Q → Option X) → ((s : S) (q : Q) → m .own s q ≡ true → given (a s q) ≡ true)
       → (s : S) (l : List Q) → somes (seen (watched m a) s l) ≡ seen m s l
   seen-watched m a h s [] = refl
   seen-watched m a h s (q ∷ l) =
       by-cases (m .own s q)
       (λ o. rw (o, h s q o, seen-watched m a h (m .next s q) l))
-      (λ o. by-cases (labelled (a s q))
+      (λ o. by-cases (given (a s q))
       (λ p. rw (o, p, seen-watched m a h (m .next s q) l))
       (λ p. rw (o, p, seen-watched m a h (m .next s q) l)))
 
   pub unwound-labels : (m n : Machine S Q A) (a b : S → Q → Option X) {R : S → S → Type 0} → Laws (watched m a) (watched n b) (SameLabel a b) R
-      → ((s : S) (q : Q) → m .own s q ≡ true → labelled (a s q) ≡ true) → ((s : S) (q : Q) → n .own s q ≡ true → labelled (b s q) ≡ true)
+      → ((s : S) (q : Q) → m .own s q ≡ true → given (a s q) ≡ true) → ((s : S) (q : Q) → n .own s q ≡ true → given (b s q) ≡ true)
       → (s t : S) → R s t → (l k : List Q) → labels (m .next) a s l ≡ labels (n .next) b t k
       → (seen m s l ≡ seen n t k) × R (end (m .next) s l) (end (n .next) t k)
   unwound-labels m n a b w h i s t r l k e =
@@ -106,7 +101,7 @@ abbrev pub labelsBy : {Q X : Type 0} → (Q → Option X) → List Q → List X
 labelsBy label [] = []
 labelsBy label (q ∷ l) = joined (label q) (labelsBy label l)
 
-labelsBy-chosen : {Q X : Type 0} (label : Q → Option X) (l : List Q) → labelsBy label (chosen (λ q. labelled (label q)) l) ≡ labelsBy label l
+labelsBy-chosen : {Q X : Type 0} (label : Q → Option X) (l : List Q) → labelsBy label (chosen (λ q. given (label q)) l) ≡ labelsBy label l
 labelsBy-chosen label [] = refl
 labelsBy-chosen label (q ∷ l) =
     option-cases (label q)
@@ -119,5 +114,5 @@ module _ {S Q X : Type 0} (next : S → Q → S) (label : S → Q → Option X) 
   labels-start s (q ∷ l) =
       ap (joined (label s q)) (labels-start (next s q) l ∙ ap (λ (x : Q → Option X). labelsBy x l) (fun-ext (kept s q)))
 
-  pub labels-chosen : (s : S) (l : List Q) → labels next label s (chosen (λ q. labelled (label s q)) l) ≡ labels next label s l
-  labels-chosen s l = labels-start s (chosen (λ q. labelled (label s q)) l) ∙ labelsBy-chosen (label s) l ∙ sym (labels-start s l)
+  pub labels-chosen : (s : S) (l : List Q) → labels next label s (chosen (λ q. given (label s q)) l) ≡ labels next label s l
+  labels-chosen s l = labels-start s (chosen (λ q. given (label s q)) l) ∙ labelsBy-chosen (label s) l ∙ sym (labels-start s l)

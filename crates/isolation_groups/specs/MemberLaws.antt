@@ -1,9 +1,8 @@
 -- What membership says of a number.
 --     member-below        a member is below 256
---     not-true            the test behind a negation
 -- Assumes nothing.
-use mathlib.Core.Path.{_≡_, refl, sym}
-use mathlib.Core.Bool.{Bool, true, false, not}
+use mathlib.Core.Path.{_≡_, refl}
+use mathlib.Core.Bool.{true}
 use mathlib.Core.List.{List}
 use Prim.Native.Nat.{ℕ, _<_}
 use lib.Dec.{ltb}
@@ -15,7 +14,3 @@ use Rattle.isolation_groups.specs.Member.{memberOf}
 pub member-below : (g : List ℕ) (n : ℕ) → memberOf g n ≡ true → n < mostPes
 unfolding memberOf
 member-below g n h = by-cases (ltb n mostPes) (λ o. ltb-true n mostPes o) (λ o. clash (rw o at h) refl)
-
-pub not-true : (b : Bool) → not b ≡ true → b ≡ false
-not-true true e = sym e
-not-true false e = refl

@@ -11,7 +11,7 @@ use Prim.Native.Nat.{ℕ, _<_, _≤_}
 use native.Mathlib.Omega.{arith}
 use lib.Dec.{leb}
 use borrow.Author.Tests.{le-leb}
-use Rattle.kinds.specs.Tests.{by-cases, clash}
+use Rattle.kinds.specs.Tests.{by-cases, clash, not-true}
 use Rattle.kinds.specs.Words.{bitOf}
 use Rattle.kinds.specs.declared.lookup.Owner.{Owner}
 use Rattle.kinds.specs.declared.lookup.Owner.the-variants.{Of, Nobody}
@@ -24,7 +24,6 @@ use Rattle.profile.specs.Tables.{Tables, Live, mostPes}
 use Rattle.isolation_groups.specs.Any.{any}
 use Rattle.isolation_groups.specs.AnyLaws.{any-none, none-any}
 use Rattle.isolation_groups.specs.Member.{memberOf, group}
-use Rattle.isolation_groups.specs.MemberLaws.{not-true}
 use Rattle.isolation_tests.specs.Group.{flag, ownerNumber, ownerNumberIn, memberListed, outsiderLists, closed}
 
 pub flag-one : (b : Bool) → flag b ≡ 1 → b ≡ true

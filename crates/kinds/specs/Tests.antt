@@ -1,14 +1,14 @@
 -- Reasoning by the value of a test.
---     by-cases b f g      go by the two values of b
---     clash p q           a test is not both true and false
+--     by-cases b f g      go by the two values of b; cond-cases: what holds of both holds of the one that b picks
+--     clash p q           a test is not both true and false; not-true: the test behind a negation
 --     and-left, and-right the parts of a conjunction that holds; and-both puts them together; and-true, and-false: by its last part
---     or-cases            the part of a disjunction that holds; or-left and or-right put one in
---     option-cases        what there may be is there, or not; none-some: it is not both
+--     or-cases            the part of a disjunction that holds; or-left and or-right put one in; or-first, or-second: the parts of one that does not hold
+--     given o             what there may be is there; ungiven: or it is not; option-cases: it is, or not; none-some: it is not both
 --     all l               every test of a list holds; all-true: so test k does; all-append: of two lists together
 --     tests               the rule set that turns a fact about numbers into the value of its test
 -- Assumes nothing.
 use mathlib.Core.Path.{_≡_, refl, sym}
-use mathlib.Core.Bool.{Bool, true, false, _&&_, _||_}
+use mathlib.Core.Bool.{Bool, true, false, cond, not, _&&_, _||_}
 use mathlib.Core.List.{List, [], _∷_, _++_}
 use mathlib.Core.Option.{Option, none, some}
 use Prim.Native.Nat.{ℕ, zero, suc}
@@ -22,8 +22,16 @@ pub by-cases : {P : Type 0} (b : Bool) → (b ≡ true → P) → (b ≡ false �
 by-cases true f g = f refl
 by-cases false f g = g refl
 
+pub cond-cases : {A : Type 0} (P : A → Type 0) (b : Bool) {x y : A} → P x → P y → P (cond b x y)
+cond-cases P true u v = u
+cond-cases P false u v = v
+
 pub clash : {P : Type 0} {b : Bool} → b ≡ true → b ≡ false → P
 clash p q = absurd (let y : _≡_ {A = ℕ} 0 1 = cc in omega arith)
+
+pub not-true : (b : Bool) → not b ≡ true → b ≡ false
+not-true true e = clash e refl
+not-true false e = refl
 
 pub and-left : (a b : Bool) → (a && b) ≡ true → a ≡ true
 and-left true b e = refl
@@ -55,6 +63,22 @@ or-left false b e = clash refl (sym e)
 pub or-right : (a b : Bool) → b ≡ true → (a || b) ≡ true
 or-right true b e = refl
 or-right false b e = e
+
+pub or-first : (a b : Bool) → (a || b) ≡ false → a ≡ false
+or-first true b e = e
+or-first false b e = refl
+
+pub or-second : (a b : Bool) → (a || b) ≡ false → b ≡ false
+or-second true b e = clash refl e
+or-second false b e = e
+
+abbrev pub given : {X : Type 0} → Option X → Bool
+given none = false
+given (some x) = true
+
+pub ungiven : {X : Type 0} (o : Option X) → given o ≡ false → o ≡ none
+ungiven none e = refl
+ungiven (some x) e = clash refl e
 
 pub option-cases : {X P : Type 0} (o : Option X) → (o ≡ none → P) → ((x : X) → o ≡ some x → P) → P
 option-cases none f g = f refl

@@ -4,7 +4,7 @@
 --                         where there is no PE
 --     act-agrees          the same effect at a member, on two bridges that agree, keeps that they agree; whole-agrees: so does one to the fence, whoever
 --                         has it done
---     act-keeps, whole-keeps      no effect changes the PE word of an interrupt
+--     act-keeps, whole-keeps      no effect changes the PE word of an interrupt; actBy-lengths: nor the length of a table
 --     no-peers            a freeze alone lists nobody; froze-past: a freeze leaves every word from PE N on, the fence word first, whatever bits are set
 --     beyond x            effect x changes words that are not its PE's: it takes peers along, or sets or clears the fence; act-others: any other leaves
 --                         every word of the state that is not its PE's
@@ -20,9 +20,11 @@ use lib.Dec.{ltb, eqb}
 use lib.ListN.{length, set, length-set}
 use lib.Seq.{getD-set-other}
 use borrow.Author.Tests.{ltb-true, ltb-false, le-ltb, eqb-true, eq-eqb, ne-eqb}
-use Rattle.kinds.specs.Tests.{by-cases, clash, and-left}
+use Rattle.kinds.specs.Tests.{by-cases, cond-cases, clash, and-left}
 use Rattle.kinds.specs.Words.{at, bitOf}
 use Rattle.kinds.specs.WordsLaws.{at-out, at-set, at-mapAt, length-mapAt}
+use Rattle.kinds.specs.declared.lookup.Owner.{Owner}
+use Rattle.kinds.specs.declared.lookup.Owner.the-variants.{Of, Nobody}
 use Rattle.kinds.specs.declared.number.PeNumber.{PeNumber}
 use Rattle.kinds.specs.declared.outcome.Effect.{Effect}
 use Rattle.kinds.specs.declared.outcome.Effect.the-variants.{Keep, Freeze, Release, Interrupt, Fence}
@@ -30,11 +32,11 @@ use Rattle.kinds.specs.declared.outcome.ErrorRecord.{ErrorRecord}
 use Rattle.kinds.specs.declared.record.Sizes.{Sizes}
 use Rattle.kinds.specs.declared.request.Part.{Part}
 use Rattle.kinds.specs.declared.request.Part.the-variants.{Mmio, Dma, Record}
-use Rattle.profile.specs.Tables.{Live, interruptWords, stateWords}
+use Rattle.profile.specs.Tables.{Tables, Live, interruptWords, stateWords}
 use Rattle.profile.specs.Freeze.{stopWord, reasonWord, valueWord, failedWord, vectorIn, noPeers, taken, asPeer, marked, frozen, ofPes, froze, released}
 use Rattle.profile.specs.Fence.{fenceWord, withFence, fenceTo}
-use Rattle.profile.specs.Msi.{interrupt}
-use Rattle.profile.specs.Step.{whole, act}
+use Rattle.profile.specs.Msi.{interruptIn, interrupt, stored}
+use Rattle.profile.specs.Step.{whole, act, actBy}
 use Rattle.profile.specs.Agree.{peOf, seenWord, interruptPe, Same}
 use Rattle.profile.specs.AgreeLaws.{same-refl, same-sym, same-trans, stop-agrees, reason-agrees}
 
@@ -348,3 +350,36 @@ act-keeps n w p (Interrupt j v b) s i =
     by-cases (eqb (interrupt s j .pe) (p .0))
     (λ o. rw o (pe-kept j 3 b i (omega arith) (omega arith) (interruptStored j 2 v s) ∙ pe-kept j 2 v i (omega arith) (omega arith) s))
     (λ o. rw o)
+
+abbrev pub SameLengths : (s t : Live) → Type 0
+SameLengths s t = (length (s .state) ≡ length (t .state)) × (length (s .interrupts) ≡ length (t .interrupts))
+
+released-length : (c : Part) (p : PeNumber) (l : List ℕ) → length l ≡ length (released c p l)
+unfolding released
+released-length Mmio p l = sym (length-set l (stopWord p) _)
+released-length Dma p l = sym (length-set l (stopWord p) _)
+released-length Record p l = simp length-set refl
+
+stored-length : (p : PeNumber) (i v b : ℕ) (l : List ℕ) → length l ≡ length (stored p i v b l)
+stored-length p i v b l = cond-cases (λ k. length l ≡ length k) (eqb (interruptIn l i .pe) (p .0)) (simp length-set refl) refl
+
+whole-lengths : (n : ℕ) (e : Effect) (s : Live) → SameLengths s (whole n e s)
+unfolding whole
+whole-lengths n Keep s = (refl, refl)
+whole-lengths n (Freeze e b) s = (refl, refl)
+whole-lengths n (Release c) s = (refl, refl)
+whole-lengths n (Interrupt i v b) s = (refl, refl)
+whole-lengths n (Fence b) s = (sym (length-set (s .state) (fenceWord n) _), refl)
+
+act-lengths : (n : ℕ) (w : List ℕ) (p : PeNumber) (e : Effect) (s : Live) → SameLengths s (act n w p e s)
+unfolding act
+act-lengths n w p Keep s = (refl, refl)
+act-lengths n w p (Freeze e b) s = (sym (length-mapAt _ 0 (s .state)), refl)
+act-lengths n w p (Release c) s = (released-length c p (s .state), refl)
+act-lengths n w p (Interrupt i v b) s = (refl, stored-length p i v b (s .interrupts))
+act-lengths n w p (Fence b) s = whole-lengths n (Fence b) s
+
+pub actBy-lengths : (f : Tables) (o : Owner) (e : Effect) (s : Live) → SameLengths s (actBy f o e s)
+unfolding actBy
+actBy-lengths f (Of p) e s = act-lengths (f .sizes .pes) (f .peers) p e s
+actBy-lengths f (Nobody r) e s = whole-lengths (f .sizes .pes) e s

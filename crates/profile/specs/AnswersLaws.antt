@@ -14,7 +14,7 @@
 --     decided-fits        so, with answered-shown, WHETHER PEERS ARE TAKEN follows from the reason, on any tables, and the record's TABLE WORD is the
 --                         answer's
 --     refused-others      a request that is answered with a reason leaves every word of the state of each PE but its owner
---     unsized-answered    on tables that 01's table of lengths does not allow every answer is reason 1, with no word read
+--     unsized-answered    on tables that 01's table of lengths does not allow every answer is reason 1, with no word read; unsized-decided: and no effect
 --     unsized-keeps       and nothing changes
 -- Assumes nothing.
 use mathlib.Core.Path.{_≡_, refl, sym, ap, _∙_}
@@ -28,14 +28,12 @@ use borrow.Author.Tests.{eq-eqb}
 use Rattle.kinds.specs.Answer.{reasonNumber, numbered, refuse, isDone}
 use Rattle.kinds.specs.Checked.{Checked, Kept, Ready, Walk, Fences}
 use Rattle.kinds.specs.Outcome as outcomes
-use Rattle.kinds.specs.Tests.{by-cases, clash, and-left, and-right, none-some}
+use Rattle.kinds.specs.Tests.{by-cases, cond-cases, clash, not-true, and-left, and-right, none-some}
 use Rattle.kinds.specs.Words.{at}
 use Rattle.kinds.specs.declared.answer.Answer.{Answer}
 use Rattle.kinds.specs.declared.answer.Answer.the-variants.{Pass, Msi, Held, Ones, Drop, Refuse, Done}
-use Rattle.kinds.specs.declared.answer.Reason.{Reason}
-use Rattle.kinds.specs.declared.answer.Reason.the-variants.{TableLength, BadRequest, UnknownRequester, NoWindow, MmioStopped, BadFirmware}
+use Rattle.kinds.specs.declared.answer.Reason.the-variants.{TableLength, BadRequest, MmioStopped}
 use Rattle.kinds.specs.declared.lookup.Found.{Found}
-use Rattle.kinds.specs.declared.lookup.Found.the-variants.{Frame, Forbidden, Outside}
 use Rattle.kinds.specs.declared.lookup.Hit.{Hit}
 use Rattle.kinds.specs.declared.lookup.Hit.the-variants.{At, Miss}
 use Rattle.kinds.specs.declared.lookup.Owner.{Owner}
@@ -57,20 +55,22 @@ use Rattle.kinds.specs.declared.request.Direction.{Direction}
 use Rattle.kinds.specs.declared.request.DmaRequest.{DmaRequest}
 use Rattle.kinds.specs.declared.request.Request.{Request}
 use Rattle.kinds.specs.declared.request.Request.the-variants.{Dma, Load, Store, Error, Clear, End, Priority, Fatal, FenceClear, Unnamed}
-use Rattle.profile.specs.Tables.{Tables, Live, lengths, sized, named}
+use Rattle.profile.specs.Tables.{Tables, Live, lengths, sized}
 use Rattle.profile.specs.Freeze.{stopWord, mmioStopped, dmaStopped}
 use Rattle.profile.specs.Fence.{fenceWord, barred, shut, kind}
 use Rattle.profile.specs.FenceLaws.{shut-cases}
-use Rattle.profile.specs.Entry.{classOf, half, offset, entryIn, pageSize, pageOf, tableGood, bypass, bypassGood, pagesGood, inBypass, walks, unwalked}
-use Rattle.profile.specs.Walk.{allows, landed, walkedPage, byPages}
+use Rattle.profile.specs.Entry.{classOf, half, offset, entryIn, pageSize, pageOf, walks, unwalked}
+use Rattle.profile.specs.Walk.{landed, walkedPage, byPages}
 use Rattle.profile.specs.Msi.{holding, interruptIn, interrupt, ranged, presents, announced, delivered, msi}
 use Rattle.profile.specs.Firmware.{onGood, ends, prioritized}
 use Rattle.profile.specs.Windows.{route, onesOf}
 use Rattle.profile.specs.Step.{formed, installedTo, lastTest, outcomeOf, reached, byEntry, served, dmaAsked, accessed, unowned, ask, asked, checked, finish, whole, act, actBy, decided, answered, after}
 use Rattle.profile.specs.Agree.{peOf}
 use Rattle.profile.specs.ActLaws.{calm, whole-calm, beyond, act-others}
-use Rattle.profile.specs.Owner.{ofRequester, ofInterrupt, ofHit, ownerIn, owner}
+use Rattle.profile.specs.Owner.{ownerIn, owner}
+use Rattle.profile.specs.OwnerLaws.{ownerIn-cases}
 use Rattle.profile.specs.RequestLaws.{unowned-cases}
+use Rattle.profile.specs.WalkLaws.{landed-cases, unwalked-cases}
 
 unfoldable pub shown : Answer → Bool
 shown a = not (eqb (numbered a .reason) 12) && not (eqb (numbered a .reason) 13)
@@ -120,31 +120,18 @@ ownerShown (Of p) = true
 ownerShown (Nobody r) = told (refuse r)
 
 either : {A : Type 0} (P : A → Bool) (b : Bool) {x y : A} → P x ≡ true → P y ≡ true → P (cond b x y) ≡ true
-either P true p q = p
-either P false p q = q
+either P b = cond-cases (λ x. P x ≡ true) b
 
 neither : {A : Type 0} (P : A → Bool) (b : Bool) {x y : A} → P x ≡ false → P y ≡ false → P (cond b x y) ≡ false
-neither P true p q = p
-neither P false p q = q
-
-not-true : (b : Bool) → not b ≡ true → b ≡ false
-not-true true h = clash h refl
-not-true false h = refl
+neither P b = cond-cases (λ x. P x ≡ false) b
 
 landed-shown : (z : PageSize) (d : Direction) (o : ByteAddress) (w : Found) → translatedShown (landed z d o w) ≡ true
-unfolding landed told shown worded
-landed-shown z d o (Frame j w) = either translatedShown (allows d w) refl refl
-landed-shown z d o (Forbidden j) = refl
-landed-shown z d o (Outside j) = refl
+unfolding told shown worded
+landed-shown = landed-cases (λ t. translatedShown t ≡ true) (λ a. refl) (λ w. refl) (λ w. refl)
 
 unwalked-shown : (e : TranslationEntry) (o : ByteAddress) → translatedShown (unwalked e o) ≡ true
-unfolding unwalked told shown worded
-unwalked-shown e o =
-    either translatedShown (tableGood e)
-    (either translatedShown (bypass e)
-    (either translatedShown (bypassGood e) (either translatedShown (inBypass e o) refl refl) refl)
-    (either translatedShown (pagesGood e) refl refl))
-    refl
+unfolding told shown worded
+unwalked-shown = unwalked-cases (λ t. translatedShown t ≡ true) (λ a. refl) refl refl
 
 pages-shown : (m : List ℕ) (e : TranslationEntry) (d : Direction) (o : ByteAddress) → translatedShown (byPages m e d o .result) ≡ true
 unfolding byPages
@@ -220,35 +207,9 @@ finish-shown i m (Walk p e q) h =
 finish-shown i m (Fences b) h = refl
 
 -- the refusals that nobody gets
-named-shown : (r : Reason) (n k : ℕ) → told (refuse r) ≡ true → ownerShown (named r n k) ≡ true
-unfolding named
-named-shown r n k h = either ownerShown (ltb k n) refl h
-
-hit-shown : (n : ℕ) (h : Hit) → ownerShown (ofHit n h) ≡ true
-unfolding told shown worded
-hit-shown n (At k c) = named-shown NoWindow n k refl
-hit-shown n Miss = refl
-
-requester-shown : (n c : ℕ) (l : List ℕ) (r : ℕ) → ownerShown (ofRequester n c l r) ≡ true
-unfolding told shown worded
-requester-shown n c l r = either ownerShown (ltb r c) (named-shown UnknownRequester n _ refl) refl
-
-interrupt-shown : (n c : ℕ) (l : List ℕ) (i : ℕ) → ownerShown (ofInterrupt n c l i) ≡ true
-unfolding told shown worded
-interrupt-shown n c l i = either ownerShown (ltb i c) (named-shown BadFirmware n _ refl) refl
-
 owner-shown : (z : Sizes) (r w g l : List ℕ) (q : Request) → ownerShown (ownerIn z r w g l q) ≡ true
-unfolding ownerIn told shown worded
-owner-shown z r w g l (Dma q) = requester-shown (z .pes) (z .requesters) r _
-owner-shown z r w g l (Load a n) = hit-shown (z .pes) (route _ _ _)
-owner-shown z r w g l (Store a n) = hit-shown (z .pes) (route _ _ _)
-owner-shown z r w g l (Error q) = requester-shown (z .pes) (z .requesters) r _
-owner-shown z r w g l (Clear p c) = named-shown BadFirmware (z .pes) _ refl
-owner-shown z r w g l (End i) = interrupt-shown (z .pes) (z .interrupts) l _
-owner-shown z r w g l (Priority i n) = interrupt-shown (z .pes) (z .interrupts) l _
-owner-shown z r w g l (Fatal q) = requester-shown (z .pes) (z .requesters) r _
-owner-shown z r w g l FenceClear = refl
-owner-shown z r w g l Unnamed = refl
+unfolding told shown worded
+owner-shown z r w g l = ownerIn-cases z r w g l (λ o. ownerShown o ≡ true) (λ p h. refl) refl refl refl refl
 
 module _ (z : Sizes) (installed : ℕ) (requesters entries windows segments : List ℕ) (s : Live) where
   ask-shown : (p : PeNumber) (q : Request) → checkedShown (ask z installed requesters entries windows segments s p q) ≡ true
@@ -470,7 +431,7 @@ refused-others f m s q r i away =
 -- ---- reason 1
 
 module _ (f : Tables) (m : List ℕ) (s : Live) (q : Request) (bad : sized (f .sizes) (lengths f (length m) s) ≡ false) where
-  unsized-decided : decided f m s q ≡ record { answer = refuse TableLength; effect = Keep }
+  pub unsized-decided : decided f m s q ≡ record { answer = refuse TableLength; effect = Keep }
   unfolding checked finish
   unsized-decided =
       ap (λ (b : Bool). finish (f .installed) m (checked (f .sizes) (f .installed) (f .requesters) (f .entries) (f .windows) (f .segments) s b q)) bad

@@ -11,7 +11,7 @@ use mathlib.Core.Bool.{Bool, true, false, cond}
 use mathlib.Core.List.{List}
 use mathlib.Core.Option.{Option, none, some}
 use Prim.Native.Nat.{ℕ}
-use lib.ListN.{length, length-set}
+use lib.ListN.{length}
 use Rattle.kinds.specs.Answer.{refuse, isDone}
 use Rattle.kinds.specs.Checked.{Kept}
 use Rattle.kinds.specs.Outcome.{refused, done}
@@ -31,7 +31,7 @@ use Rattle.profile.specs.Fence.{fenceWord, fenced, stops, barred, shut, 
 use Rattle.profile.specs.Step.{formed, unowned, ask, asked, checked, finish, whole, act, actBy, decided, answered, after}
 use Rattle.profile.specs.Owner.{owner}
 use Rattle.profile.specs.Agree.{owned, obeyed, Closed, Same}
-use Rattle.profile.specs.ActLaws.{calm}
+use Rattle.profile.specs.ActLaws.{calm, SameLengths, actBy-lengths}
 use Rattle.profile.specs.OwnerLaws.{owner-keeps}
 use Rattle.profile.specs.RequestLaws.{after-unseen}
 use Rattle.profile.specs.AnswersLaws.{decided-calm}
@@ -164,12 +164,8 @@ module _ (f : Tables) (m : List ℕ) (s : Live) (q : Request) where
   pub fence-kept : obeyed f m s q ≡ none → at (after f m s q .state) (fenceWord (f .sizes .pes)) ≡ at (s .state) (fenceWord (f .sizes .pes))
   fence-kept h = sym (unobeyed-same h .fence-word)
 
-  pub after-lengths : (length (s .state) ≡ length (after f m s q .state)) × (length (s .interrupts) ≡ length (after f m s q .interrupts))
-  unfolding whole
-  after-lengths =
-      option-cases (obeyed f m s q)
-      (λ h. (unobeyed-same h .state-length, unobeyed-same h .interrupts-length))
-      (λ e h. rw (obeyed-does f m s q e h) (sym (length-set (s .state) (fenceWord (f .sizes .pes)) _), refl))
+  pub after-lengths : SameLengths s (after f m s q)
+  after-lengths = actBy-lengths f (owner f s q) (decided f m s q .effect) s
 
   after-sized : (n : ℕ) → sized (f .sizes) (lengths f n (after f m s q)) ≡ sized (f .sizes) (lengths f n s)
   after-sized n = rw (← after-lengths .0, ← after-lengths .1)

@@ -1,5 +1,6 @@
 -- Laws of whom a request belongs to.
---     owner-below         a PE that a request belongs to is below N (Below n o: the owner o is below n, or nobody); ownerIn-below: by the tables
+--     ownerIn-cases       THE OWNERS: a PE below N, or nobody with 2, 3, 10 or 14
+--     owner-below         so a PE that a request belongs to is below N (Below n o: the owner o is below n, or nobody); ownerIn-below: by the tables
 --     ownerIn-reads       of the interrupts the owner depends on the PE words alone
 --     owner-keeps         so no request changes what belongs to whom
 --     owner-agrees        and on two bridges that agree in what a group sees a request belongs to the same PE, or to nobody with the same refusal
@@ -15,7 +16,7 @@ use borrow.Author.Tests.{ltb-true, le-ltb}
 use Rattle.kinds.specs.Tests.{by-cases}
 use Rattle.kinds.specs.Words.{noPe, peAt}
 use Rattle.kinds.specs.declared.answer.Reason.{Reason}
-use Rattle.kinds.specs.declared.answer.Reason.the-variants.{UnknownRequester, NoWindow, BadFirmware}
+use Rattle.kinds.specs.declared.answer.Reason.the-variants.{BadRequest, UnknownRequester, NoWindow, BadFirmware}
 use Rattle.kinds.specs.declared.lookup.Hit.{Hit}
 use Rattle.kinds.specs.declared.lookup.Hit.the-variants.{At, Miss}
 use Rattle.kinds.specs.declared.lookup.Owner.{Owner}
@@ -38,34 +39,40 @@ Below n (Of p) = p .0 < n
 Below n (Nobody r) = Unit {0}
 
 -- a number that is taken for a PE, after a test or, with b true, after none
-named-below : (b : Bool) (r : Reason) (n k : ℕ) → Below n (cond b (named r n k) (Nobody r))
+named-cases : (P : Owner → Type 0) (n : ℕ) → ((p : PeNumber) → p .0 < n → P (Of p)) → (x : Reason) → P (Nobody x) → (b : Bool) (k : ℕ)
+    → P (cond b (named x n k) (Nobody x))
 unfolding named
-named-below false r n k = tt
-named-below true r n k = by-cases (ltb k n) (λ o. rw o (ltb-true k n o)) (λ o. rw o tt)
-
-hit-below : (n : ℕ) (h : Hit) → Below n (ofHit n h)
-hit-below n (At k c) = named-below true NoWindow n k
-hit-below n Miss = tt
+named-cases P n pe x h false k = h
+named-cases P n pe x h true k = by-cases (ltb k n) (λ o. rw o (pe (record { 0 = k }) (ltb-true k n o))) (λ o. rw o h)
 
 module _ (z : Sizes) (r w g l : List ℕ) where
-  requester-below : (q : ℕ) → Below (z .pes) (ofRequester (z .pes) (z .requesters) r q)
-  requester-below q = named-below (ltb q (z .requesters)) UnknownRequester (z .pes) _
+  module _ (P : Owner → Type 0) (pe : (p : PeNumber) → p .0 < z .pes → P (Of p)) (unnamed : P (Nobody BadRequest)) (unknown : P (Nobody UnknownRequester))
+      (lost : P (Nobody NoWindow)) (bad : P (Nobody BadFirmware)) where
+    requester-cases : (q : ℕ) → P (ofRequester (z .pes) (z .requesters) r q)
+    requester-cases q = named-cases P (z .pes) pe UnknownRequester unknown (ltb q (z .requesters)) _
 
-  interrupt-below : (i : ℕ) → Below (z .pes) (ofInterrupt (z .pes) (z .interrupts) l i)
-  interrupt-below i = named-below (ltb i (z .interrupts)) BadFirmware (z .pes) _
+    interrupt-cases : (i : ℕ) → P (ofInterrupt (z .pes) (z .interrupts) l i)
+    interrupt-cases i = named-cases P (z .pes) pe BadFirmware bad (ltb i (z .interrupts)) _
+
+    hit-cases : (h : Hit) → P (ofHit (z .pes) h)
+    hit-cases (At k c) = named-cases P (z .pes) pe NoWindow lost true k
+    hit-cases Miss = lost
+
+    pub ownerIn-cases : (q : Request) → P (ownerIn z r w g l q)
+    unfolding ownerIn
+    ownerIn-cases (Dma q) = requester-cases _
+    ownerIn-cases (Load a n) = hit-cases (route _ _ _)
+    ownerIn-cases (Store a n) = hit-cases (route _ _ _)
+    ownerIn-cases (Error q) = requester-cases _
+    ownerIn-cases (Clear p c) = named-cases P (z .pes) pe BadFirmware bad true _
+    ownerIn-cases (End i) = interrupt-cases _
+    ownerIn-cases (Priority i n) = interrupt-cases _
+    ownerIn-cases (Fatal q) = requester-cases _
+    ownerIn-cases FenceClear = bad
+    ownerIn-cases Unnamed = unnamed
 
   pub ownerIn-below : (q : Request) → Below (z .pes) (ownerIn z r w g l q)
-  unfolding ownerIn
-  ownerIn-below (Dma q) = requester-below _
-  ownerIn-below (Load a n) = hit-below (z .pes) (route _ _ _)
-  ownerIn-below (Store a n) = hit-below (z .pes) (route _ _ _)
-  ownerIn-below (Error q) = requester-below _
-  ownerIn-below (Clear p c) = named-below true BadFirmware (z .pes) _
-  ownerIn-below (End i) = interrupt-below _
-  ownerIn-below (Priority i n) = interrupt-below _
-  ownerIn-below (Fatal q) = requester-below _
-  ownerIn-below FenceClear = tt
-  ownerIn-below Unnamed = tt
+  ownerIn-below = ownerIn-cases (Below (z .pes)) (λ p h. h) tt tt tt tt
 
   -- of the interrupts it depends on the PE words alone
   pub ownerIn-reads : (k : List ℕ) → ((i : ℕ) → i < z .interrupts → interruptIn l i .pe ≡ interruptIn k i .pe) → (q : Request)

@@ -9,7 +9,7 @@
 --     after-agrees        so it keeps what the group sees
 --     after-unseen        ANOTHER'S REQUEST is not seen, whatever effect it has, but on the fence
 --     checked-owner       where a check is ready with an outcome or asks for a walk, it names the owner; unowned-cases: what a request of nobody comes to
--- A new kind of request adds a clause to ownerIn-below, ownerIn-reads, ask-agrees, ask-walks, unowned-cases and ask-owner; one that has an effect of its own
+-- A new kind of request adds a clause to ownerIn-cases, ownerIn-reads, ask-agrees, ask-walks, unowned-cases and ask-owner; one that has an effect of its own
 -- adds that effect to the laws of `ActLaws`; one that reads a table adds what it reads of it to `Alike`, `Same` or `Held`.
 -- Assumes nothing.
 use mathlib.Core.Path.{_≡_, refl, ap, ap₂, _∙_}

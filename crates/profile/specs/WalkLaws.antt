@@ -9,6 +9,7 @@
 --                         same walk, so the same places
 --     walk-reads, reads-reads, translated-reads   the same of the walk by an entry for an offset, of the places read for it, of its translation
 --     paged-walkable      a good entry with pages has a table that can be walked; pages-is: where it is walked, that is the translation
+--     landed-cases, unwalked-cases    what a walk gives, and what an entry says without one: an address, or a fault of 8 or 15, and of 6 or 7
 --     walk-counted        A WALK TO A LAST WORD READS AS MANY WORDS AS THERE ARE LEVELS; pass-counted: so a translation by pages to an address does;
 --                         unwalked-counted: and one without a walk reads none
 -- Assumes nothing.
@@ -22,18 +23,20 @@ use lib.Dec.{leb, ltb}
 use lib.ListN.{length}
 use borrow.Author.Tests.{le-leb, leb-true}
 use Rattle.kinds.specs.Number.{wordAddress, noWord}
-use Rattle.kinds.specs.Tests.{by-cases, clash, and-left, and-right, all-true}
+use Rattle.kinds.specs.Tests.{by-cases, cond-cases, clash, and-left, and-right, all-true}
 use Rattle.kinds.specs.Words.{at}
+use Rattle.kinds.specs.declared.answer.Reason.the-variants.{BadEntry, OutsideWindow, TableWord, OutsideMemory}
 use Rattle.kinds.specs.declared.lookup.Found.{Found}
 use Rattle.kinds.specs.declared.lookup.Found.the-variants.{Frame, Forbidden, Outside}
-use Rattle.kinds.specs.declared.lookup.Translated.the-variants.{To}
+use Rattle.kinds.specs.declared.lookup.Translated.{Translated}
+use Rattle.kinds.specs.declared.lookup.Translated.the-variants.{To, Fault}
 use Rattle.kinds.specs.declared.number.ByteAddress.{ByteAddress}
 use Rattle.kinds.specs.declared.number.PageNumber.{PageNumber}
 use Rattle.kinds.specs.declared.number.PageSize.{PageSize}
 use Rattle.kinds.specs.declared.record.TranslationEntry.{TranslationEntry}
 use Rattle.kinds.specs.declared.request.Direction.{Direction}
-use Rattle.profile.specs.Entry.{pageSize, pageOf, indexBits, span, offsetBits, tableGood, bypass, pageTests, pagesGood, paged, walkable, walks, unwalked, mostTableCode}
-use Rattle.profile.specs.Walk.{Walked, place, nextBase, leads, turn, walkFrom, walk, landed, byPages, translated, readsBy}
+use Rattle.profile.specs.Entry.{pageSize, pageOf, indexBits, span, offsetBits, tableGood, bypass, bypassGood, inBypass, pageTests, pagesGood, paged, walkable, walks, unwalked, mostTableCode}
+use Rattle.profile.specs.Walk.{Walked, place, nextBase, leads, turn, walkFrom, walk, allows, landed, byPages, translated, readsBy}
 
 pub walk-zero : (m : List ℕ) (n : ℕ) (b : ByteAddress) (q : PageNumber) → walkFrom m zero n b q ≡ record { found = Forbidden noWord; reads = [] }
 unfolding walkFrom
@@ -150,6 +153,21 @@ walk-counted m (suc k) n b q i x e =
     (λ o. outside-frame (rw o at y)))
 
 -- only a last word lands at an address
+pub landed-cases : (P : Translated → Type 0) → ((a : ByteAddress) → P (To a)) → ((w : ByteAddress) → P (Fault TableWord w)) → ((w : ByteAddress) → P (Fault OutsideMemory w))
+    → (s : PageSize) (d : Direction) (o : ByteAddress) (f : Found) → P (landed s d o f)
+unfolding landed
+landed-cases P to forbids missing s d o (Frame j w) = cond-cases P (allows d w) (to _) (forbids j)
+landed-cases P to forbids missing s d o (Forbidden j) = forbids j
+landed-cases P to forbids missing s d o (Outside j) = missing j
+
+pub unwalked-cases : (P : Translated → Type 0) → ((a : ByteAddress) → P (To a)) → P (Fault BadEntry noWord) → P (Fault OutsideWindow noWord)
+    → (e : TranslationEntry) (o : ByteAddress) → P (unwalked e o)
+unfolding unwalked
+unwalked-cases P to bad outside e o =
+    cond-cases P (tableGood e)
+    (cond-cases P (bypass e) (cond-cases P (bypassGood e) (cond-cases P (inBypass e o) (to o) outside) bad) (cond-cases P (pagesGood e) outside bad))
+    bad
+
 landed-frame : {P : Type 0} (s : PageSize) (d : Direction) (o : ByteAddress) (f : Found) (t : ByteAddress) → landed s d o f ≡ To t
     → ((j : ByteAddress) (x : ℕ) → f ≡ Frame j x → P) → P
 unfolding landed

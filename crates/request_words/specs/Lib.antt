@@ -6,5 +6,7 @@ pub mod Run
 pub mod RunIsolation
 pub mod RunLaws
 pub mod RunOfList
+pub mod RunRelease
+pub mod RunReleaseCases
 pub mod RunWitness
 pub mod WordCases
