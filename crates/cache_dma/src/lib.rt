@@ -1,5 +1,7 @@
 // A DMA whose page table is asked for, with a translation cache or without one: a hit is answered from its slot, without memory; else the page is walked, and its
 // slot is filled where the DMA passes. Defined in crates/cache/specs/Cache.antt.
+#![tactic(auto)]
+
 ghost use Rattle.std.specs.Prelude.{◌≡◌};
 ghost use Rattle.kinds.specs.Checked.{Walk};
 ghost use Rattle.profile.specs.Step.{reached, finish};
@@ -39,7 +41,7 @@ fn found_by(
 }
 
 // What the cache says of a DMA whose page table is asked for: the outcome of a hit whose word permits the DMA, or that the page is walked.
-#[derive(Drop)]
+#[derive(Clone, Copy)]
 pub enum Quick {
     Hit { outcome: Outcome },
     Miss,

@@ -1,5 +1,7 @@
 // An edit of a memory word, and an invalidate of the translation cache, on any tables; the test of reason 1 is the caller's. Defined in crates/edits/specs/Edits.antt
 // and crates/cache/specs/Cache.antt.
+#![tactic(auto)]
+
 ghost use Rattle.std.specs.Prelude.{◌≡◌, true};
 ghost use Rattle.kinds.specs.Answer.{refuse};
 ghost use Rattle.edits.specs.Edits.{nameable};

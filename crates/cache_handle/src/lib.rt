@@ -1,5 +1,7 @@
 // One request or operation on the bridge with a translation cache, and one request on the bridge without, on any tables and any contents of the cache. Both
 // bridges go one way, and a flag tells them apart. Memory is written by edits alone. Defined in crates/cache/specs/Cache.antt.
+#![tactic(auto)]
+
 ghost use Rattle.std.specs.Prelude.{◌≡◌, not, ◌&&◌, eqb, length};
 ghost use Rattle.kinds.specs.Checked.{shown};
 ghost use Rattle.kinds.specs.declared.request.Operation.TheVariants.{Plain, Edit, Invalidate};
@@ -41,7 +43,7 @@ fn fits(sizes: Sizes, lengths: Lengths, cache: &[u64]) -> bool
 }
 
 // What is known of a request before memory is read: its checks, and what the cache says where they ask for a walk.
-#[derive(Drop)]
+#[derive(Clone, Copy)]
 pub struct Looked {
     pub check: Check,
     pub quick: Quick,

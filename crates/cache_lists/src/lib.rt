@@ -1,4 +1,6 @@
 // Operations read from lists of words. Defined in crates/cache_words/specs/Operations.antt.
+#![tactic(auto)]
+
 ghost use Rattle.std.specs.Prelude.{◌≡◌, ◌+◌, ◌≤◌, length};
 ghost use Rattle.request_words.specs.Layout.{request_words};
 ghost use Rattle.cache_words.specs.Operations.{decoded_invalidate, decoded_operation, operation_from, operation_in, of_cache_in};

@@ -1,4 +1,6 @@
 // The slots of the translation cache, each by its number. A slot number is a byte: there are 256. Defined in crates/cache/specs/Slots.antt.
+#![tactic(auto)]
+
 ghost use Rattle.std.specs.Prelude.{◌≡◌};
 ghost use Rattle.cache.specs.Slots.{slot_of, word_of, holds, put};
 

@@ -1,5 +1,7 @@
 // A sweep of the translation cache: each full slot that is named is emptied, wherever the rule would have put it. Defined in crates/cache/specs/Slots.antt, what
 // names a slot in crates/cache/specs/Cache.antt.
+#![tactic(auto)]
+
 ghost use Rattle.std.specs.Prelude.{◌≡◌, [], ◌*◌, ◌<◌, ◌≤◌, length};
 ghost use Rattle.cache.specs.Cache.{through};
 ghost use Rattle.cache.specs.Slots.{slot_words, sweep};
@@ -18,7 +20,7 @@ use tables::words::{put, word};
 const SLOT_WORDS: usize = limits::SLOT_WORDS as usize;
 
 // What a sweep empties: all slots, those of a PE, that of a page, those whose walk reads a memory word, or none.
-#[derive(Drop)]
+#[derive(Clone, Copy)]
 pub enum Drops {
     All,
     Pe { pe: u64 },

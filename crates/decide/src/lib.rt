@@ -1,4 +1,6 @@
 // A request on the bridge's tables: its answer and its effect. Nothing is written. Defined in crates/profile/specs/Step.antt.
+#![tactic(auto)]
+
 pub mod forms;
 
 ghost use Rattle.std.specs.Prelude.{◌≡◌, true};

@@ -1,4 +1,6 @@
 // A DMA of a PE: its checks before memory is read, and its outcome by the walk of its page. Defined in crates/profile/specs/Step.antt.
+#![tactic(auto)]
+
 ghost use Rattle.std.specs.Prelude.{◌≡◌, ◌-◌};
 ghost use Rattle.kinds.specs.Checked.{shown, Walk};
 ghost use Rattle.kinds.specs.Words.{at};

@@ -11,7 +11,7 @@ use profile::limits::MOST_TABLE_CODE;
 const MOST_UNITS: u64 = 0x8_0000_0000;
 
 // The way of an offset by an entry: the page table is walked, the offset is the system address, the entry is bad, or the offset is outside its window.
-#[derive(Drop)]
+#[derive(Clone, Copy)]
 pub enum Way {
     Walk(PageSize),
     Bypass,

@@ -12,14 +12,14 @@ use profile::limits::{CODE_BITS, MOST_LEVELS, MOST_TABLE_CODE, OFFSET_BITS};
 const MOST_BITS: u64 = 60;
 
 // A page code: one of the four sizes, or none.
-#[derive(Drop)]
+#[derive(Clone, Copy)]
 pub(crate) enum SizeCode {
     Known(PageSize),
     Unknown,
 }
 
 // The page size of a table and the sum of the bits of its pages and indexes, or a bad entry.
-#[derive(Drop)]
+#[derive(Clone, Copy)]
 pub enum Shape {
     Pages { size: PageSize, span: u64 },
     Bad,

@@ -14,7 +14,7 @@ use kinds::record::TranslationEntry;
 use kinds::request::Direction;
 
 // The system address or the fault, and the count of table words read.
-#[derive(Drop)]
+#[derive(Clone, Copy)]
 pub struct Translation {
     pub result: Translated,
     pub words: u64,

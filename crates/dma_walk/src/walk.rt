@@ -14,14 +14,14 @@ use kinds::record::TranslationEntry;
 use profile::limits::{CODE_BITS, WORD_BYTES};
 
 // What a walk found, and the count of words that it read.
-#[derive(Drop)]
+#[derive(Clone, Copy)]
 pub struct Walked {
     pub found: Found,
     pub words: u64,
 }
 
 // The result of one level of a walk: the base of the next table, or the end, with the words that it read.
-#[derive(Drop)]
+#[derive(Clone, Copy)]
 pub(crate) enum Next {
     Table(ByteAddress),
     End { found: Found, words: u64 },

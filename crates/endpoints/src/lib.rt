@@ -1,4 +1,6 @@
 // The words of a PE: its stop bits and its error record, with their release by firmware, and its peer vector. Defined in crates/profile/specs/Freeze.antt.
+#![tactic(auto)]
+
 ghost use Rattle.std.specs.Prelude.{◌≡◌};
 ghost use Rattle.kinds.specs.Words.{at, bit_of};
 ghost use Rattle.profile.specs.Freeze.{dma_stopped, stop_word, released, vector_in};

@@ -1,4 +1,6 @@
 // The fence: its word in the state, read and changed. Defined in crates/profile/specs/Fence.antt.
+#![tactic(auto)]
+
 ghost use Rattle.std.specs.Prelude.{◌≡◌};
 ghost use Rattle.kinds.specs.Words.{at};
 ghost use Rattle.profile.specs.Fence.{fence_word, fenced, with_fence, fence_to};

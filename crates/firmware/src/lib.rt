@@ -1,4 +1,6 @@
 // Firmware requests: what a clear, an end and a priority are answered and do. Defined in crates/profile/specs/Firmware.antt.
+#![tactic(auto)]
+
 pub mod interrupt;
 
 ghost use Rattle.std.specs.Prelude.{◌≡◌};

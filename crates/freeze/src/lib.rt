@@ -1,4 +1,6 @@
 // The freeze of a PE, alone or with its peers: stop bits and error records. Defined in crates/profile/specs/Freeze.antt.
+#![tactic(auto)]
+
 ghost use Rattle.std.specs.Prelude.{◌≡◌, ◌+◌, ◌*◌, ◌^◌, ◌<◌, length};
 ghost use Rattle.profile.specs.Freeze.{froze};
 ghost use Rattle.profile.specs.Tables.{state_words};

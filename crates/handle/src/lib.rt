@@ -1,4 +1,6 @@
 // One request on any tables: its answer, and its effect done. Only state and interrupts are written. Defined in crates/profile/specs/Step.antt.
+#![tactic(auto)]
+
 ghost use Rattle.std.specs.Prelude.{◌≡◌};
 ghost use Rattle.profile.specs.Freeze.{taken};
 ghost use Rattle.profile.specs.Step.{act};

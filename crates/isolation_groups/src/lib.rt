@@ -1,4 +1,6 @@
 // Groups of PEs as bit vectors, as peer vectors are, and marks on memory words. Defined in crates/isolation_groups/specs/Member.antt and Mark.antt.
+#![tactic(auto)]
+
 ghost use Rattle.std.specs.Prelude.{◌≡◌};
 ghost use Rattle.isolation_groups.specs.Mark.{any_mark};
 ghost use Rattle.isolation_groups.specs.Member.{member_of};

@@ -20,7 +20,7 @@ const MSI_PAGE_64K: u64 = 0xFFFF;
 const MSI_PAGES_64K: u64 = 1;
 
 // Pages that are not walked: the first, and how many.
-#[derive(Drop)]
+#[derive(Clone, Copy)]
 pub struct Gap {
     pub page: u64,
     pub count: u64,

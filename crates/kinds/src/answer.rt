@@ -5,7 +5,7 @@ ghost use Rattle.kinds.specs.Answer.{reason_number, numbered};
 use crate::number::{ByteAddress, PeNumber};
 
 // Why a request is refused or a PE is frozen; `reason_number` gives the number of each.
-#[derive(Drop)]
+#[derive(Clone, Copy)]
 pub enum Reason {
     TableLength,
     BadRequest,
@@ -28,7 +28,7 @@ pub enum Reason {
 
 // `Ones` and `Drop` are a load and a store that a stop bit or the fence keeps from the device, by their reason. A refusal has the count of table words
 // read, and the address of the table word that failed, 0 where none did.
-#[derive(Drop)]
+#[derive(Clone, Copy)]
 pub enum Answer {
     Pass {
         address: ByteAddress,
@@ -59,7 +59,7 @@ pub enum Answer {
 }
 
 // An answer as numbers. `name` is 0 pass, 1 msi, 2 held, 3 ones, 4 drop, 5 refuse, 6 done.
-#[derive(Drop)]
+#[derive(Clone, Copy)]
 pub struct Numbers {
     pub name: u64,
     pub reason: u64,

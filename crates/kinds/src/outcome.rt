@@ -5,14 +5,14 @@ use crate::record::TranslationEntry;
 use crate::request::{DmaRequest, Part};
 
 // What a freeze writes into an empty error record; `word` is the address of the table word that failed, 0 where none did.
-#[derive(Drop)]
+#[derive(Clone, Copy)]
 pub struct ErrorRecord {
     pub reason: Reason,
     pub value: u64,
     pub word: ByteAddress,
 }
 
-#[derive(Drop)]
+#[derive(Clone, Copy)]
 pub enum Effect {
     Keep,
     // With the PE's peers, or alone.
@@ -35,7 +35,7 @@ pub enum Effect {
     },
 }
 
-#[derive(Drop)]
+#[derive(Clone, Copy)]
 pub struct Outcome {
     pub answer: Answer,
     pub effect: Effect,
@@ -43,7 +43,7 @@ pub struct Outcome {
 
 // What is known of a request before memory is read: that it is answered and nothing is done (`kept`); its outcome, whose effect is done at `pe` or is
 // the fence's; or that the page table of `entry` of `pe` is walked for `dma` (`walks`). What is not known then is empty.
-#[derive(Drop)]
+#[derive(Clone, Copy)]
 pub struct Check {
     pub walks: bool,
     pub kept: bool,

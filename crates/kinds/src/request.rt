@@ -2,14 +2,14 @@
 // `PeNumber` when it has been found good.
 use crate::number::ByteAddress;
 
-#[derive(Drop)]
+#[derive(Clone, Copy)]
 pub enum Direction {
     Read,
     Write,
 }
 
 // What an address of a DMA asks for, by its top four bits.
-#[derive(Drop)]
+#[derive(Clone, Copy)]
 pub enum AddressClass {
     Dma,
     Msi32,
@@ -18,7 +18,7 @@ pub enum AddressClass {
 }
 
 // The part of a PE's state that firmware clears.
-#[derive(Drop)]
+#[derive(Clone, Copy)]
 pub enum Part {
     Mmio,
     Dma,
@@ -26,7 +26,7 @@ pub enum Part {
 }
 
 // A DMA, or an MSI by its address.
-#[derive(Drop)]
+#[derive(Clone, Copy)]
 pub struct DmaRequest {
     pub requester: u64,
     pub direction: Direction,
@@ -35,7 +35,7 @@ pub struct DmaRequest {
     pub data: u32,
 }
 
-#[derive(Drop)]
+#[derive(Clone, Copy)]
 pub enum Request {
     Dma(DmaRequest),
     Load { address: ByteAddress, width: u64 },
@@ -53,7 +53,7 @@ pub enum Request {
 }
 
 // What an invalidate of the translation cache names: all that it holds, what it holds of a PE, or of the page around an address of a PE.
-#[derive(Drop)]
+#[derive(Clone, Copy)]
 pub enum Scope {
     All,
     Pe { pe: u64 },
@@ -61,7 +61,7 @@ pub enum Scope {
 }
 
 // What is asked of the bridge with a translation cache: a request, an edit of a word of memory, or an invalidate.
-#[derive(Drop)]
+#[derive(Clone, Copy)]
 pub enum Operation {
     Plain(Request),
     // The word with this number, which stands at 8 times as many bytes, becomes this value.

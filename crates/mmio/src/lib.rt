@@ -1,4 +1,6 @@
 // A load or store by its window: whose it is, and what it is answered. Defined in crates/profile/specs/Step.antt.
+#![tactic(auto)]
+
 ghost use Rattle.std.specs.Prelude.{◌≡◌, cond, min};
 ghost use Rattle.kinds.specs.declared.answer.Answer.TheVariants.{Pass};
 ghost use Rattle.profile.specs.Freeze.{mmio_stopped, stop_word};

@@ -1,4 +1,6 @@
 // Load and store routing: the first open window that covers an address. Defined in crates/profile/specs/Windows.antt.
+#![tactic(auto)]
+
 mod open_windows;
 
 ghost use Rattle.std.specs.Prelude.{◌≡◌, ◌+◌, ◌-◌, ◌<◌, ◌≤◌, true};

@@ -1,4 +1,6 @@
 // Interrupts and MSIs: the lent words of an interrupt; an MSI's number, its form, and what happens as it arrives. Defined in crates/profile/specs/Msi.antt.
+#![tactic(auto)]
+
 pub mod interrupts;
 
 ghost use Rattle.std.specs.Prelude.{◌≡◌, ◌%◌};

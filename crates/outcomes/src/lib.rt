@@ -1,4 +1,6 @@
 // Outcomes and checks by what they say: a pass, a refusal, done; answered, known, to be walked. Defined in crates/kinds/specs/Outcome.antt and Checked.antt.
+#![tactic(auto)]
+
 ghost use Rattle.std.specs.Prelude.{◌≡◌};
 ghost use Rattle.kinds.specs.Answer.{refuse};
 ghost use Rattle.kinds.specs.Checked.{shown, Kept, Ready, Walk, Fences};

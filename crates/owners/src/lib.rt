@@ -1,4 +1,6 @@
 // Whom a request belongs to, on tables of any length. N has 16 bits, so that a number below it is a PE's. Defined in crates/profile/specs/Owner.antt.
+#![tactic(auto)]
+
 ghost use Rattle.std.specs.Prelude.{◌≡◌};
 ghost use Rattle.profile.specs.Tables.{named};
 ghost use Rattle.profile.specs.Owner.{of_requester, of_interrupt, of_hit, owner_in};

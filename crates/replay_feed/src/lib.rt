@@ -1,4 +1,6 @@
 // Replay text in pieces of any length: bytes in, output lines out. Defined in crates/replay_feed/specs/Feed.antt.
+#![tactic(auto)]
+
 mod bytes;
 
 ghost use Rattle.std.specs.Prelude.{◌≡◌, ◌&&◌, eqb, leb};
@@ -18,7 +20,7 @@ pub(crate) const LINE_KEPT: usize = 128;
 // What became of a piece: so many bytes of it were taken, and the output ends at `at`. Fewer bytes than there are: the next one ends a line, and the
 // output, the count of output lines or the tables have no room for it. Unfit: no buffer of 128 bytes for the line, or more pending than it holds; nothing
 // was done.
-#[derive(Drop)]
+#[derive(Clone, Copy)]
 pub enum Fed {
     To {
         progress: Progress,
@@ -29,7 +31,7 @@ pub enum Fed {
 }
 
 // How many bytes of the line are kept, and the place of the input after them.
-#[derive(Drop)]
+#[derive(Clone, Copy)]
 pub(crate) struct Kept {
     pub(crate) pending: usize,
     pub(crate) next: usize,
@@ -37,7 +39,7 @@ pub(crate) struct Kept {
 
 // Where the replay stands after a line's bytes, the end of the output, the place of the input after those bytes, and the place up to which bytes can be taken:
 // the end of the input, or `next` where the byte there is a line feed whose line could not end.
-#[derive(Drop)]
+#[derive(Clone, Copy)]
 pub(crate) struct Moved {
     pub(crate) progress: Progress,
     pub(crate) at: usize,

@@ -1,4 +1,6 @@
 // Replays standard input to standard output. Defined in crates/replay_text/specs/Replay.antt.
+#![tactic(auto)]
+
 use replay_feed;
 use replay_feed::Fed;
 use replay_session::Progress;
@@ -9,7 +11,7 @@ use text_report::Written;
 const MOST_PIECES: u64 = 1000000000000;
 
 // What became of a piece: there may be more; the input has ended; its answers could not be written, or it was not taken whole.
-#[derive(Drop)]
+#[derive(Clone, Copy)]
 enum Turn {
     More(Progress),
     Ended,

@@ -1,4 +1,6 @@
 // A session of replay text: a line read, done on the lent tables and answered. Defined in crates/replay_session/specs/Standing.antt.
+#![tactic(auto)]
+
 pub mod run;
 
 ghost use Rattle.std.specs.Prelude.{◌≡◌, ◌&&◌, ◌+◌, ◌≤◌, ◌<◌, ltb, leb, length, take};
@@ -16,7 +18,7 @@ use text_report;
 use text_report::Written;
 
 // Where a replay stands between two pieces: the extent of the tables, the bytes kept of the line that has not ended, and the count of output lines.
-#[derive(Drop)]
+#[derive(Clone, Copy)]
 pub struct Progress {
     pub extent: Extent,
     pub pending: usize,
@@ -25,7 +27,7 @@ pub struct Progress {
 
 // Where the replay stands after the end of a line, and the end of the output. `ended` is false where the output, the count of output lines or the tables have
 // no room for the line: nothing was done.
-#[derive(Drop)]
+#[derive(Clone, Copy)]
 pub struct Ended {
     pub progress: Progress,
     pub at: usize,
@@ -33,7 +35,7 @@ pub struct Ended {
 }
 
 // The end of the output and the count of its lines after a reply; `ended` is false where the tables have no room for the line.
-#[derive(Drop)]
+#[derive(Clone, Copy)]
 struct Closed {
     at: usize,
     count: u64,

@@ -1,4 +1,6 @@
 // The lent tables of a replay: the words in use, one of them set, all cleared for new sizes. Defined in crates/replay_tables/specs/Lent.antt.
+#![tactic(auto)]
+
 mod size;
 mod table;
 
@@ -17,14 +19,14 @@ use table_lists::{once, used};
 use tables::sizes;
 
 // What the last good size line asked for; zeros before the first one.
-#[derive(Drop)]
+#[derive(Clone, Copy)]
 pub struct Extent {
     pub sizes: Sizes,
     pub memory: u64,
 }
 
 // What became of a line: the extent after it, and what it writes.
-#[derive(Drop)]
+#[derive(Clone, Copy)]
 pub struct Replied {
     pub extent: Extent,
     pub reply: Reply,

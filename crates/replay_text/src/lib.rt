@@ -1,4 +1,6 @@
 // The replay text: its definition, in specs/ from Replay.antt down, the types that it shares with the code, and what a bad line answers.
+#![tactic(auto)]
+
 ghost use Rattle.std.specs.Prelude.{◌≡◌};
 ghost use Rattle.replay_text.specs.Text.{bad_numbers};
 
@@ -17,7 +19,7 @@ pub const INSTALLED: u64 = 0x1_0000_0000;
 const BAD: u64 = 7;
 
 // The tables, as a set line names them.
-#[derive(Drop)]
+#[derive(Clone, Copy)]
 pub enum Table {
     Requesters,
     Entries,
@@ -29,7 +31,7 @@ pub enum Table {
     State,
 }
 
-#[derive(Drop)]
+#[derive(Clone, Copy)]
 pub enum Line {
     Size {
         pes: u64,
@@ -47,7 +49,7 @@ pub enum Line {
 }
 
 // What a line writes: nothing, or an output line with these numbers. NoRoom: the lent tables are too short for a size line, and nothing was done.
-#[derive(Drop)]
+#[derive(Clone, Copy)]
 pub enum Reply {
     Silent,
     Says(Numbers),

@@ -1,4 +1,6 @@
 // Lent lists as a whole: how many of their words are in use, and all of them cleared. Defined in crates/table_lists/specs/Once.antt.
+#![tactic(auto)]
+
 ghost use Rattle.std.specs.Prelude.{◌≡◌, ◌*◌, min, length, replicate};
 ghost use Rattle.table_lists.specs.Once.{once};
 

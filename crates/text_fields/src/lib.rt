@@ -1,5 +1,7 @@
 // The fields of a line of replay text, from left to right. Defined in crates/replay_text/specs/Field.antt.
 // A field ends at a tab or at the end of the line; the next one is found from there.
+#![tactic(auto)]
+
 mod name;
 mod number;
 mod place;
@@ -14,7 +16,7 @@ use place::field_after;
 pub use place::{first, same};
 
 // What is asked for in a field.
-#[derive(Drop)]
+#[derive(Clone, Copy)]
 pub enum Kind {
     Number,
     Table,
@@ -24,7 +26,7 @@ pub enum Kind {
 
 // What a field holds, the number or the place of the name in the list of names, and where it ends. A field that does not hold what was asked for ends past
 // the line, and so does every field that is read from there.
-#[derive(Drop)]
+#[derive(Clone, Copy)]
 pub struct Field {
     pub value: u64,
     pub end: usize,

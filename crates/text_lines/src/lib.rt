@@ -1,4 +1,6 @@
 // What a line of replay text says, from its bytes. Defined in crates/replay_text/specs/Line.antt.
+#![tactic(auto)]
+
 mod firmware;
 mod request;
 

@@ -1,4 +1,6 @@
 // The lines that a replay writes, as bytes in a lent slice. Defined in crates/replay_text/specs/Text.antt.
+#![tactic(auto)]
+
 mod digits;
 mod names;
 
@@ -21,7 +23,7 @@ pub const LINE_MOST: usize = 87;
 const HEADER_LENGTH: usize = 28;
 
 // Where the next byte goes; or too few bytes were free, and none was written.
-#[derive(Drop)]
+#[derive(Clone, Copy)]
 pub enum Written {
     To(usize),
     NoRoom,
