@@ -5,26 +5,26 @@ use mathlib.Core.List.{List}
 use Prim.Native.Nat.{ℕ, suc, ◌+◌, ◌-◌, ◌*◌, ◌≤◌, ◌<◌}
 use native.Mathlib.Omega.{arith}
 use lib.ListN.{length}
-use Rattle.kinds.specs.Tests.{by_cases}
+use Rattle.kinds.proofs.Tests.{by_cases}
 use Rattle.kinds.specs.declared.answer.Answer.{Answer}
 use Rattle.kinds.specs.declared.record.Sizes.{Sizes}
 use Rattle.kinds.specs.declared.request.Operation.{Operation}
 use Rattle.profile.specs.Tables.{Tables}
 use Rattle.request_words.specs.Layout.{request_words, answer_words, written, written_in}
-use Rattle.request_words.specs.LayoutLaws.{written_in_lem}
+use Rattle.request_words.proofs.LayoutLaws.{written_in_lem}
 use Rattle.request_words.specs.Run.{Ran, ran_on, served}
 use Rattle.tables.specs.Tables.{tables}
 use Rattle.cache.specs.Cache.{Cached, cached_answer, cached_after}
-use Rattle.cache.specs.ContentsLaws.{contents}
-use Rattle.cache_claims.specs.DemandLaws.{simulation, cached_isolation}
-use Rattle.cache_claims.specs.Release.{cached_released}
+use Rattle.cache.proofs.ContentsLaws.{contents}
+use Rattle.cache_claims.proofs.DemandLaws.{simulation, cached_isolation}
+use Rattle.cache_claims.proofs.Release.{cached_released}
 use Rattle.cache_handle.specs.Lent.{lent}
 use Rattle.cache_handle.specs.Promise.{Operated}
 use Rattle.cache_words.specs.CachedRun.{cached_ran_to}
-use Rattle.cache_words.specs.CachedRunLaws.{cached_run_of}
+use Rattle.cache_words.proofs.CachedRunLaws.{cached_run_of}
 use Rattle.cache_words.specs.Either.{span-one, ran_on-span}
 use Rattle.cache_words.specs.Operations.{maintained, operation_at, operation_in, of_cache_in}
-use Rattle.cache_words.specs.OperationsLaws.{operation_in_lem, maintained-at}
+use Rattle.cache_words.proofs.OperationsLaws.{operation_in_lem, maintained-at}
 use Rattle.bridge.specs.CachedPromise.{RanCached}
 use Rattle.bridge.specs.Stretch.{cached_state, Stretched, Maintained, Advanced}
 

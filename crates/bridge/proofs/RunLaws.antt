@@ -6,27 +6,28 @@ use Prim.Native.Nat.{ℕ, suc, ◌+◌, ◌-◌, ◌*◌, ◌/◌, ◌≤◌, �
 use native.Mathlib.Nat.{min-eq_left, min-eq_right, min-le_left, min-le_right}
 use native.Mathlib.Omega.{arith}
 use lib.ListN.{length}
-use Rattle.kinds.specs.Tests.{clash}
+use Rattle.kinds.proofs.Tests.{clash}
 use Rattle.kinds.specs.declared.answer.Answer.{Answer}
 use Rattle.kinds.specs.declared.record.Sizes.{Sizes}
 use Rattle.kinds.specs.declared.request.Operation.TheVariants.{Plain}
 use Rattle.kinds.specs.declared.request.Request.{Request}
-use Rattle.history.specs.Release.{released}
-use Rattle.isolation.specs.Isolation.{isolation}
+use Rattle.history.proofs.Release.{released}
+use Rattle.isolation.proofs.Isolation.{isolation}
 use Rattle.profile.specs.Tables.{Tables, Live}
 use Rattle.request_words.specs.Layout.{request_words, answer_words, decoded_at, request_in, written, written_in}
-use Rattle.request_words.specs.LayoutLaws.{request_in_lem, written_in_lem}
-use Rattle.request_words.specs.RunIsolation.{run_isolation}
-use Rattle.request_words.specs.RunOfList.{run_of_list}
-use Rattle.request_words.specs.RunRelease.{run_released}
+use Rattle.request_words.proofs.LayoutLaws.{request_in_lem, written_in_lem}
+use Rattle.request_words.proofs.RunIsolation.{run_isolation}
+use Rattle.request_words.proofs.RunOfList.{run_of_list}
+use Rattle.request_words.proofs.RunRelease.{run_released}
 use Rattle.request_words.specs.Run.{Ran, ran_one_on, RunState, run_state, ran_to, served}
 use Rattle.tables.specs.Tables.{tables, live}
 use Rattle.cache.specs.Cache.{Cached}
 use Rattle.cache_handle.specs.Lent.{lent}
 use Rattle.cache_handle.specs.Promise.{Served}
-use Rattle.cache_words.specs.Either.{either_answer, either_after, either_span, span_none, span-one, bare-span}
+use Rattle.cache_words.specs.Either.{either_answer, either_after, either_span, span_none, span-one}
+use Rattle.cache_words.proofs.Either.{bare-span}
 use Rattle.cache_words.specs.Operations.{operation_at, of_cache_in}
-use Rattle.cache_words.specs.OperationsLaws.{plain_at, plain_of_lem}
+use Rattle.cache_words.proofs.OperationsLaws.{plain_at, plain_of_lem}
 use Rattle.bridge.specs.Promise.{RanAll}
 use Rattle.bridge.specs.Stretch.{cached_state, Stretched}
 

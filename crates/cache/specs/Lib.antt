@@ -1,9 +1,3 @@
 pub mod Cache
-pub mod CacheCases
-pub mod CacheLaws
 pub mod Contents
-pub mod ContentsCases
-pub mod ContentsLaws
-pub mod Opened
 pub mod Slots
-pub mod SlotsLaws

@@ -1,7 +1,2 @@
-pub mod CacheBridges
-pub mod CacheNeeded
-pub mod CacheWitness
 pub mod Demand
-pub mod DemandLaws
 pub mod Release
-pub mod ReleaseCases

@@ -1,1 +1,2 @@
 mod CacheDmaLaws
+pub mod QuickLaws

@@ -5,7 +5,7 @@
 use Rattle.std.specs.Prelude.{◌≡◌, cond, List, ℕ}
 use Rattle.kinds.specs.Checked.{Checked, Ready, Walk}
 use Rattle.kinds.specs.Number.{no_word}
-use Rattle.kinds.specs.Tests.{by_cases}
+use Rattle.kinds.proofs.Tests.{by_cases}
 use Rattle.kinds.specs.declared.lookup.Found.TheVariants.{Frame}
 use Rattle.kinds.specs.declared.number.PeNumber.{PeNumber}
 use Rattle.kinds.specs.declared.record.TranslationEntry.{TranslationEntry}
@@ -21,7 +21,3 @@ quick_for i c p e q = cond (is_hit c p e q) (Hit (found_by i p e q (Frame no_wor
 abbrev pub in_place : Quick → PeNumber → Checked → Checked
 in_place (Hit o) p x = Ready p o
 in_place Miss p x = x
-
-pub looked_quick : (i : ℕ) (c : List ℕ) (p : PeNumber) (e : TranslationEntry) (q : DmaRequest) → in_place (quick_for i c p e q) p (Walk p e q) ≡ looked i c (Walk p e q)
-unfolding quick_for looked
-looked_quick i c p e q = by_cases (is_hit c p e q) (λ o. rw o) (λ o. rw o)

@@ -1,1 +1,2 @@
 mod EditLaws
+pub mod PromiseLaws

@@ -10,7 +10,7 @@ use lib.Dec.{eqb}
 use lib.ListN.{length}
 use borrow.Author.Tests.{eq-eqb, ne_eqb}
 use Rattle.kinds.specs.Answer.{numbered, refuse}
-use Rattle.kinds.specs.Tests.{clash, not_true, not_false, and_right}
+use Rattle.kinds.proofs.Tests.{clash, not_true, not_false, and_right}
 use Rattle.kinds.specs.Checked.{Checked, Kept, Walk, shown}
 use Rattle.kinds.specs.declared.answer.Answer.{Answer}
 use Rattle.kinds.specs.declared.answer.Reason.TheVariants.{TableLength, BadRequest}
@@ -25,18 +25,18 @@ use Rattle.kinds.specs.declared.request.Request.{Request}
 use Rattle.kinds.specs.declared.request.Request.TheVariants.{Unnamed}
 use Rattle.kinds.specs.declared.request.Scope.{Scope}
 use Rattle.profile.specs.Owner.{owner}
-use Rattle.profile.specs.RequestLaws.{checked-owner}
+use Rattle.profile.proofs.RequestLaws.{checked-owner}
 use Rattle.profile.specs.Step.{formed, finish, act, act_by, checked}
 use Rattle.profile.specs.Tables.{Tables, Live, lengths, sized}
-use Rattle.tables.specs.SizedLaws.{sized-pes}
+use Rattle.tables.proofs.SizedLaws.{sized-pes}
 use Rattle.tables.specs.Tables.{live}
-use Rattle.handle.specs.PlacedLaws.{placed, kept_out, kept-still, still}
+use Rattle.handle.proofs.PlacedLaws.{placed, kept_out, kept-still, still}
 use Rattle.edits.specs.Edits.{Bare, good, checked_by}
 use Rattle.cache.specs.Slots.{cache_words}
 use Rattle.cache.specs.Cache.{looked, filled, Cached, fit, finish_of, cache_by, cached_answer, cached_after}
-use Rattle.cache.specs.ContentsLaws.{contents}
-use Rattle.cache_claims.specs.DemandLaws.{answer-one, stuck, simulation, cached_isolation}
-use Rattle.cache_claims.specs.Release.{cached_released}
+use Rattle.cache.proofs.ContentsLaws.{contents}
+use Rattle.cache_claims.proofs.DemandLaws.{answer-one, stuck, simulation, cached_isolation}
+use Rattle.cache_claims.proofs.Release.{cached_released}
 use Rattle.cache_dma.specs.Quick.{quick_for}
 use Rattle.cache_dma.specs.declared.Quick.{Quick}
 use Rattle.cache_dma.specs.declared.Quick.TheVariants.{Hit, Miss}
@@ -44,9 +44,9 @@ use Rattle.cache_dma.specs.Went.{Went, either_filled}
 use Rattle.cache_words.specs.Either.{either_answer, either_after}
 use Rattle.cache_words.specs.Operations.{maintained}
 use Rattle.cache_edits.specs.Promise.{Edited, Invalidated}
-use Rattle.cache_edits.specs.PromiseLaws.{edit-answer, edit-leaves, edit-cache, invalidate-answer, invalidate-cache}
+use Rattle.cache_edits.proofs.PromiseLaws.{edit-answer, edit-leaves, edit-cache, invalidate-answer, invalidate-cache}
 use Rattle.cache_handle.specs.Lent.{lent, either_sized, quick_at, looked_up, finished_by, filled_by}
-use Rattle.cache_handle.specs.LentLaws.{finished_by_lem, filled_by_lem, looked-pe, looked-kept, looked-placed, kept_fill, either_checked, either-answers, either-leaves}
+use Rattle.cache_handle.proofs.LentLaws.{finished_by_lem, filled_by_lem, looked-pe, looked-kept, looked-placed, kept_fill, either_checked, either-answers, either-leaves}
 use Rattle.cache_handle.specs.declared.Looked.{Looked}
 use Rattle.cache_handle.specs.Promise.{Served, Operated}
 

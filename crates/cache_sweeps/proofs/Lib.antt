@@ -1,1 +1,3 @@
+pub mod DropsLaws
 mod SweepLaws
+pub mod TurnLaws

@@ -9,9 +9,9 @@ use lib.ListN.{length, set}
 use borrow.Author.Tests.{lt-ltb, le-ltb, eq-eqb, ne_eqb, eqb-true}
 use Rattle.kinds.specs.Has.{has}
 use Rattle.kinds.specs.Number.{page_number}
-use Rattle.kinds.specs.Tests.{by_cases, clash}
+use Rattle.kinds.proofs.Tests.{by_cases, clash}
 use Rattle.kinds.specs.Turns.{turns}
-use Rattle.kinds.specs.TurnsLaws.{turns_next}
+use Rattle.kinds.proofs.TurnsLaws.{turns_next}
 use Rattle.kinds.specs.Words.{at}
 use Rattle.kinds.specs.declared.number.ByteAddress.{ByteAddress}
 use Rattle.kinds.specs.declared.number.PageNumber.{PageNumber}
@@ -20,12 +20,12 @@ use Rattle.kinds.specs.declared.number.PeNumber.{PeNumber}
 use Rattle.kinds.specs.declared.record.TranslationEntry.{TranslationEntry}
 use Rattle.profile.specs.Entry.{half, offset, entry_in, page_size, paged}
 use Rattle.profile.specs.Walk.{walk, walked_page}
-use Rattle.profile.specs.WalkLaws.{paged-walkable}
+use Rattle.profile.proofs.WalkLaws.{paged-walkable}
 use Rattle.cache.specs.Cache.{tabled, through}
 use Rattle.cache.specs.Slots.{slot_words, Test, dropped, sweep}
 use Rattle.cache_sweeps.specs.Drops.{of_entries, of_pe, of_page, tests, page_drops}
 use Rattle.cache_sweeps.specs.Turn.{cleared, turned}
-use Rattle.cache_sweeps.specs.TurnLaws.{length_turned, turns-is}
+use Rattle.cache_sweeps.proofs.TurnLaws.{length_turned, turns-is}
 use Rattle.cache_sweeps.specs.declared.Drops.{Drops}
 use Rattle.cache_sweeps.specs.declared.Drops.TheVariants.{All, Pe, Page, Through, Nothing}
 

@@ -1,4 +1,2 @@
 pub mod Drops
-pub mod DropsLaws
 pub mod Turn
-pub mod TurnLaws

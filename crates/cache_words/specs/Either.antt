@@ -19,7 +19,6 @@ use Rattle.request_words.specs.Run.{Ran, RunState, ran_one_on, ran_on, ran_one, 
 use Rattle.edits.specs.Edits.{bare_answer, bare_after}
 use Rattle.cache.specs.Cache.{Cached, cached_answer, cached_after}
 use Rattle.cache_words.specs.Operations.{plain_of, operation_at}
-use Rattle.cache_words.specs.OperationsLaws.{plain_of_lem}
 
 abbrev pub either_answer : (cached : Bool) → Tables → Cached → Operation → Answer
 either_answer true f x q = cached_answer f x q
@@ -51,16 +50,3 @@ module _ {S Q : Type 0} (next : S → Q → S) (answer : S → Q → Answer) (as
 
 abbrev pub either_span : (cached : Bool) → Tables → (requests : List ℕ) → Ran Cached → (k n : ℕ) → Ran Cached
 either_span b f w r k n = span (either_after b f) (either_answer b f) (operation_at w) r k n
-
-module _ (f : Tables) (m w c : List ℕ) (s : Live) (l : List ℕ) where
-  -- the state and the answer words of a bridge without a cache, seen as those of one that has the cache c
-  abbrev pub as_cached : RunState → Ran Cached
-  as_cached r = record { live = record { bare = record { memory = m; live = r.live }; cache = c }; answers = r.answers }
-
-  one-bare : (r : RunState) (k : ℕ) → ran_one_on (either_after false f) (either_answer false f) (operation_at w) (as_cached r) k ≡ as_cached (ran_one f m w r k)
-  one-bare r k = rw (plain_of_lem _ _ _ _ _ _)
-
-  pub bare-span : (n : ℕ) → either_span false f w (as_cached (record { live = s; answers = l })) 0 n ≡ as_cached (ran_to f m w s l n)
-  unfolding span ran_on
-  bare-span zero = refl
-  bare-span (suc n) = rw (zero-add, bare-span n) (one-bare (ran_to f m w s l n) n)

@@ -30,9 +30,9 @@ use Rattle.profile.specs.Owner.{of_requester, of_interrupt, of_hit, owner_in}
 use Rattle.profile.specs.Step.{formed, dma_asked, accessed, unowned, ask, asked}
 use Rattle.profile.specs.Tables.{named}
 use Rattle.profile.specs.Windows.{route, ones_of}
-use Rattle.mmio.specs.AccessLaws.{ones-formed}
+use Rattle.mmio.proofs.AccessLaws.{ones-formed}
 use Rattle.owners.specs.ByOwner.{by_owner}
-use Rattle.owners.specs.ByOwnerLaws.{asked-case, of_pe_lem}
+use Rattle.owners.proofs.ByOwnerLaws.{asked-case, of_pe_lem}
 use Rattle.tables.specs.Tables.{live}
 use Rattle.decide.specs.ByRequester.{dma_of, message_of}
 

@@ -19,7 +19,7 @@ use Rattle.profile.specs.Fence.{fence_word, fenced}
 use Rattle.profile.specs.Owner.{owner_in}
 use Rattle.profile.specs.Step.{formed, asked, checked, finish}
 use Rattle.profile.specs.Tables.{Live, sized}
-use Rattle.tables.specs.SizedLaws.{sized-pes}
+use Rattle.tables.proofs.SizedLaws.{sized-pes}
 use Rattle.decide.specs.Finished.{finished}
 use Rattle.decide.specs.PastFence.{past_fence}
 

@@ -7,7 +7,7 @@ use mathlib.Core.Path.{◌≡◌, ◌∙◌}
 use mathlib.Core.Bool.{Bool, true, false}
 use Prim.Native.Nat.{ℕ, min}
 use Rattle.kinds.specs.Checked.{Checked, Kept, shown}
-use Rattle.kinds.specs.Tests.{and_false}
+use Rattle.kinds.proofs.Tests.{and_false}
 use Rattle.kinds.specs.declared.answer.Answer.TheVariants.{Ones}
 use Rattle.kinds.specs.declared.answer.Reason.TheVariants.{Fenced}
 use Rattle.kinds.specs.declared.number.ByteAddress.{ByteAddress}
@@ -17,7 +17,7 @@ use Rattle.kinds.specs.declared.request.Request.TheVariants.{Load}
 use Rattle.profile.specs.Fence.{stops, shut}
 use Rattle.profile.specs.Step.{formed}
 use Rattle.profile.specs.Windows.{ones_of}
-use Rattle.mmio.specs.AccessLaws.{ones-formed}
+use Rattle.mmio.proofs.AccessLaws.{ones-formed}
 use Rattle.decide.specs.PastFence.{past_fence}
 
 module _ (b : Bool) (q : Request) (o : Checked) {x : Check} where

@@ -1,4 +1,5 @@
 mod AskLaws
 mod DecideLaws
 mod FencedLaws
+pub mod FinishedLaws
 mod FormLaws

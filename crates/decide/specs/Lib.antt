@@ -1,4 +1,3 @@
 pub mod ByRequester
 pub mod Finished
-pub mod FinishedLaws
 pub mod PastFence

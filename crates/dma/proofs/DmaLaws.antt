@@ -10,7 +10,7 @@ use Rattle.kinds.specs.Answer.{refuse}
 use Rattle.kinds.specs.Checked.{Kept, Ready, Walk, shown}
 use Rattle.kinds.specs.Number.{no_word}
 use Rattle.kinds.specs.Outcome.{failed}
-use Rattle.kinds.specs.Tests.{by_cases}
+use Rattle.kinds.proofs.Tests.{by_cases}
 use Rattle.kinds.specs.Words.{at}
 use Rattle.kinds.specs.declared.answer.Reason.{Reason}
 use Rattle.kinds.specs.declared.answer.Reason.TheVariants.{DmaStopped, MsiRefused, AddressClass, AboveInstalled}
@@ -31,7 +31,7 @@ use Rattle.profile.specs.Msi.{interrupt_in, number32, number64, msi_formed, deli
 use Rattle.profile.specs.Step.{installed_to, last_test, outcome_of, reached, by_entry, served, dma_asked, finish}
 use Rattle.profile.specs.Walk.{by_pages}
 use Rattle.dma_entry.specs.Ask.{asked, is_walk, ended}
-use Rattle.dma_entry.specs.AskLaws.{walk-walks, other-walks, other-ends}
+use Rattle.dma_entry.proofs.AskLaws.{walk-walks, other-walks, other-ends}
 use Rattle.dma_entry.specs.declared.ask.Way.{Way}
 use Rattle.dma_walk.specs.Turn.{summed}
 use Rattle.dma_walk.specs.declared.translate.Translation.{Translation}

@@ -5,8 +5,8 @@ use mathlib.Core.Bool.{true, false}
 use Prim.Native.Nat.{ℕ, ◌*◌, ◌/◌, ◌%◌, ◌^◌, ◌≤◌, ◌<◌}
 use native.Mathlib.Omega.{arith}
 use borrow.Author.Tests.{lt-ltb, le-ltb, lt-leb, le-leb, eq-eqb, ne_eqb}
-use Rattle.kinds.specs.Powers.{one_shl}
-use Rattle.kinds.specs.Tests.{by_cases}
+use Rattle.kinds.proofs.Powers.{one_shl}
+use Rattle.kinds.proofs.Tests.{by_cases}
 use Rattle.kinds.specs.declared.number.ByteAddress.{ByteAddress}
 use Rattle.kinds.specs.declared.number.PageSize.{PageSize}
 use Rattle.kinds.specs.declared.record.TranslationEntry.{TranslationEntry}
@@ -14,7 +14,7 @@ use Rattle.profile.specs.Entry.{page_size, span, table_good, bypass_good, pages_
 use Rattle.dma_pages.specs.Shape.{shape_of}
 use Rattle.dma_pages.specs.declared.page_tables.Shape.{Shape}
 use Rattle.dma_pages.specs.declared.page_tables.Shape.TheVariants.{Pages, Bad}
-use Rattle.dma_entry.specs.AskLaws.{good-span}
+use Rattle.dma_entry.proofs.AskLaws.{good-span}
 use Rattle.dma_entry.specs.Ask.{asked_bypass, asked_pages, asked}
 use Rattle.dma_entry.specs.declared.ask.Way.{Way}
 use Rattle.dma_entry.specs.declared.ask.Way.TheVariants.{Walk, Bypass, BadEntry, OutsideWindow}

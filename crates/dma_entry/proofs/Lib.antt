@@ -1,2 +1,3 @@
 mod AddressLaws
+pub mod AskLaws
 mod EntryLaws

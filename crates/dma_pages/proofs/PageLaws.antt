@@ -3,8 +3,8 @@ use mathlib.Core.Path.{◌≡◌}
 use Prim.Native.Nat.{ℕ, ◌+◌, ◌-◌, ◌*◌, ◌/◌, ◌%◌, ◌^◌, ◌≤◌, ◌<◌}
 use lib.Bits.{bit_and, bit_or}
 use Rattle.kinds.specs.Number.{page_bits, page_number}
-use Rattle.kinds.specs.NumberLaws.{bits_below}
-use Rattle.kinds.specs.Powers.{one_shl_pos, joined}
+use Rattle.kinds.proofs.NumberLaws.{bits_below}
+use Rattle.kinds.proofs.Powers.{one_shl_pos, joined}
 use Rattle.kinds.specs.declared.number.ByteAddress.{ByteAddress}
 use Rattle.kinds.specs.declared.number.PageNumber.{PageNumber}
 use Rattle.kinds.specs.declared.number.PageSize.{PageSize}

@@ -4,7 +4,7 @@ use mathlib.Core.Bool.{true, false}
 use Prim.Native.Nat.{ℕ, ◌≤◌, ◌<◌}
 use lib.Dec.{leb}
 use borrow.Author.Tests.{lt-leb, le-leb, eqb-true}
-use Rattle.kinds.specs.Tests.{and_false, by_cases, clash}
+use Rattle.kinds.proofs.Tests.{and_false, by_cases, clash}
 use Rattle.kinds.specs.declared.number.PageSize.{PageSize}
 use Rattle.kinds.specs.declared.record.TranslationEntry.{TranslationEntry}
 use Rattle.profile.specs.Entry.{table_good, bypass, pages_good, paged, most_table_code}

@@ -11,9 +11,9 @@ use lib.Dec.{eqb}
 use lib.Pow.{pow_pos, pow_mono}
 use borrow.Author.Tests.{lt-leb, le-leb, ne_eqb}
 use Rattle.kinds.specs.Number.{page_bits}
-use Rattle.kinds.specs.NumberLaws.{bits_most}
-use Rattle.kinds.specs.Powers.{eight_shl}
-use Rattle.kinds.specs.Tests.{and-true, and_false, by_cases}
+use Rattle.kinds.proofs.NumberLaws.{bits_most}
+use Rattle.kinds.proofs.Powers.{eight_shl}
+use Rattle.kinds.proofs.Tests.{and-true, and_false, by_cases}
 use Rattle.kinds.specs.declared.number.ByteAddress.{ByteAddress}
 use Rattle.kinds.specs.declared.number.PageSize.{PageSize}
 use Rattle.kinds.specs.declared.number.PageSize.TheVariants.{K4, K64, M16, M256}

@@ -1,2 +1,5 @@
+pub mod LoopLaws
+pub mod StepLaws
 mod TouchLaws
 mod TranslateLaws
+pub mod TurnLaws

@@ -8,7 +8,7 @@ use lib.Dec.{ltb, eqb}
 use lib.ListN.{length}
 use borrow.Author.Tests.{eq-eqb, ne_eqb}
 use Rattle.kinds.specs.Has.{has}
-use Rattle.kinds.specs.Tests.{by_cases}
+use Rattle.kinds.proofs.Tests.{by_cases}
 use Rattle.kinds.specs.Words.{at}
 use Rattle.kinds.specs.declared.lookup.Found.{Found}
 use Rattle.kinds.specs.declared.number.ByteAddress.{ByteAddress}
@@ -17,9 +17,9 @@ use Rattle.kinds.specs.declared.record.TranslationEntry.{TranslationEntry}
 use Rattle.profile.specs.Entry.{aligned, walkable}
 use Rattle.profile.specs.Walk.{place, next_base, leads, turn, walk_from, walk, walked_page}
 use Rattle.profile.specs.Walk as definition
-use Rattle.profile.specs.WalkLaws.{walk_suc}
+use Rattle.profile.proofs.WalkLaws.{walk_suc}
 use Rattle.dma_walk.specs.Turn.{next, stepped}
-use Rattle.dma_walk.specs.TurnLaws.{step-base, step-aligned}
+use Rattle.dma_walk.proofs.TurnLaws.{step-base, step-aligned}
 use Rattle.dma_walk.specs.declared.walk.Next.{Next}
 use Rattle.dma_walk.specs.declared.walk.Next.TheVariants.{Table, End}
 

@@ -6,8 +6,8 @@ use Prim.Native.Nat.{ℕ, ◌*◌, ◌%◌, ◌^◌, ◌<◌}
 use native.Mathlib.Nat.{mod-eq_of_lt}
 use borrow.Author.Tests.{leb-true}
 use Rattle.kinds.specs.Number.{page_number, byte_address, no_word}
-use Rattle.kinds.specs.NumberLaws.{byte_fits}
-use Rattle.kinds.specs.Tests.{all_true}
+use Rattle.kinds.proofs.NumberLaws.{byte_fits}
+use Rattle.kinds.proofs.Tests.{all_true}
 use Rattle.kinds.specs.declared.answer.Reason.TheVariants as reason
 use Rattle.kinds.specs.declared.lookup.Found.{Found}
 use Rattle.kinds.specs.declared.lookup.Found.TheVariants.{Frame, Forbidden}

@@ -8,9 +8,9 @@ use lib.ListN.{length, set, take, drop}
 use lib.Seq.{length-take-le}
 use borrow.Author.Tests.{lt-ltb, le-ltb, eq-eqb, ne_eqb}
 use Rattle.kinds.specs.Answer.{reason_number}
-use Rattle.kinds.specs.Tests.{and_false}
+use Rattle.kinds.proofs.Tests.{and_false}
 use Rattle.kinds.specs.Turns.{turns}
-use Rattle.kinds.specs.TurnsLaws.{turns_next}
+use Rattle.kinds.proofs.TurnsLaws.{turns_next}
 use Rattle.kinds.specs.Words.{at, bit_of}
 use Rattle.kinds.specs.declared.answer.Reason.TheVariants.{FrozenAsPeer}
 use Rattle.kinds.specs.declared.number.PeNumber.{PeNumber}
@@ -18,7 +18,7 @@ use Rattle.kinds.specs.declared.outcome.ErrorRecord.{ErrorRecord}
 use Rattle.profile.specs.Freeze.{froze}
 use Rattle.profile.specs.Tables.{state_words}
 use Rattle.freeze.specs.Turn.{recorded, stopped, peers_stopped, lists_nobody, turned, peer_turn, end_of, froze_all}
-use Rattle.freeze.specs.TurnLaws.{length_turned, turns-is, nobody-stopped, both_is, end-within, part-is}
+use Rattle.freeze.proofs.TurnLaws.{length_turned, turns-is, nobody-stopped, both_is, end-within, part-is}
 
 -- `record`
 pub record_is : (r v w : ℕ) (l : List ℕ) (i : ℕ) {m n x : List ℕ} → m ≡ set l (i + 1) r → n ≡ set m (i + 2) v → x ≡ set n (i + 3) w → x ≡ recorded r v w l i

@@ -15,18 +15,18 @@ use Rattle.kinds.specs.declared.outcome.Outcome.{Outcome}
 use Rattle.kinds.specs.declared.record.Lengths.{Lengths}
 use Rattle.kinds.specs.declared.request.Part.{Part}
 use Rattle.kinds.specs.declared.request.Request.{Request}
-use Rattle.isolation.specs.Isolation.{isolation}
+use Rattle.isolation.proofs.Isolation.{isolation}
 use Rattle.profile.specs.Fence.{fence_to}
 use Rattle.profile.specs.Freeze.{vector_in, taken, froze, released}
 use Rattle.profile.specs.Msi.{stored}
 use Rattle.profile.specs.Owner.{owner}
-use Rattle.profile.specs.RequestLaws.{checked-owner}
+use Rattle.profile.proofs.RequestLaws.{checked-owner}
 use Rattle.profile.specs.Step.{whole, act, checked, checked_on, decided, after}
 use Rattle.profile.specs.Tables.{Tables, Live, lengths, sized}
 use Rattle.tables.specs.Tables.{live}
 use Rattle.decide.specs.Finished.{finished}
-use Rattle.decide.specs.FinishedLaws.{checked-is, decided-is}
-use Rattle.handle.specs.PlacedLaws.{placed, kept_out, kept-still, still}
+use Rattle.decide.proofs.FinishedLaws.{checked-is, decided-is}
+use Rattle.handle.proofs.PlacedLaws.{placed, kept_out, kept-still, still}
 use Rattle.handle.specs.Promise.{Handled}
 
 -- `taken`

@@ -1,10 +1,5 @@
-pub mod Bridges
-pub mod Corollaries
 pub mod Isolation
 pub mod Labels
 pub mod Machine
-pub mod Needed
 pub mod Unwind
 pub mod View
-pub mod ViewLaws
-pub mod Witness

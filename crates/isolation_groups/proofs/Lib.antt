@@ -1,1 +1,4 @@
+pub mod AnyLaws
 pub mod GroupLaws
+pub mod MemberCases
+pub mod MemberLaws

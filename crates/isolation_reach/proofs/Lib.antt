@@ -1,2 +1,9 @@
-mod MembersLaws
+pub mod EntryLaws
+pub mod FootprintLaws
+pub mod GapLaws
 mod MarkingLaws
+pub mod MarksLaws
+mod MembersLaws
+pub mod PutLaws
+pub mod ReachLaws
+pub mod TableLaws

@@ -11,20 +11,20 @@ use lib.Dec.{leb}
 use lib.ListN.{length, length-set, set, take, replicate}
 use lib.Seq.{take_all, take-suc, take-suc-set}
 use borrow.Author.Tests.{lt-ltb, le-ltb, le-leb, lt-leb, eq-eqb, ne_eqb}
-use Rattle.kinds.specs.Powers.{one_shl_pos, masked}
-use Rattle.kinds.specs.Tests.{by_cases}
+use Rattle.kinds.proofs.Powers.{one_shl_pos, masked}
+use Rattle.kinds.proofs.Tests.{by_cases}
 use Rattle.kinds.specs.Turns.{turns}
 use Rattle.kinds.specs.Words.{at}
 use Rattle.kinds.specs.declared.record.TranslationEntry.{TranslationEntry}
 use Rattle.profile.specs.Entry.{index_bits, aligned, table_good, pages_good, paged, most_table_code, code_bits, offset_bits}
-use Rattle.profile.specs.WalkLaws.{paged-walkable}
+use Rattle.profile.proofs.WalkLaws.{paged-walkable}
 use mir.Syntax.{w64}
 use mir.Val.{Fits}
 use Rattle.dma_pages.specs.Shape.{shape_of}
 use Rattle.dma_pages.specs.declared.page_tables.Shape.{Shape}
 use Rattle.dma_pages.specs.declared.page_tables.Shape.TheVariants.{Pages, Bad}
 use Rattle.kinds.specs.declared.number.PageSize.{PageSize}
-use Rattle.isolation_reach.specs.MarksLaws.{walkable-code, walkable_bits, paged-level, marks_zero, marks_suc}
+use Rattle.isolation_reach.proofs.MarksLaws.{walkable-code, walkable_bits, paged-level, marks_zero, marks_suc}
 use Rattle.profile.specs.Walk.{leads}
 use Rattle.isolation_reach.specs.declared.marks.Gap.{Gap}
 use Rattle.isolation_reach.specs.Marks.{index_of, first_of, table_of, leads_to, within, mark_turn, table_turn, marked_in, tables_over, tables_under, marks_from, msi_page4k, msi_pages4k, msi_page64k, msi_pages64k, gap_at, gap_of, marks_by, marks_with}

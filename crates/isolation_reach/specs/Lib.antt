@@ -1,9 +1,2 @@
-pub mod EntryLaws
 pub mod Footprint
-pub mod FootprintLaws
-pub mod GapLaws
 pub mod Marks
-pub mod MarksLaws
-pub mod PutLaws
-pub mod ReachLaws
-pub mod TableLaws

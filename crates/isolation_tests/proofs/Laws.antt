@@ -6,7 +6,7 @@ use Prim.Native.Nat.{ℕ, ◌-◌, ◌*◌, ◌/◌, ◌%◌, ◌<◌, ◌≤◌
 use native.Mathlib.Omega.{arith}
 use lib.ListN.{length}
 use borrow.Author.Tests.{lt-leb, le-leb, eq-eqb, ne_eqb}
-use Rattle.kinds.specs.Tests.{clash}
+use Rattle.kinds.proofs.Tests.{clash}
 use Rattle.kinds.specs.Words.{no_pe, pe_at, bit_of}
 use Rattle.kinds.specs.declared.answer.Reason.{Reason}
 use Rattle.kinds.specs.declared.lookup.Owner.{Owner}
@@ -26,7 +26,7 @@ use Rattle.profile.specs.Tables.{most_pes, interrupt_words, state_words}
 use Rattle.isolation_groups.specs.Member.{member_of}
 use Rattle.isolation_tests.specs.Group.{flag, owner_number, owner_number_in, operation_number_in, member_listed, lists_member, outsider_lists, any_outsider_lists, closed}
 use Rattle.isolation_reach.specs.Footprint.{room_after, MembersMarked}
-use Rattle.isolation_reach.specs.FootprintLaws.{marks-exact}
+use Rattle.isolation_reach.proofs.FootprintLaws.{marks-exact}
 use Rattle.isolation_tests.specs.Covers.{coverable, Covered}
 use Rattle.isolation_tests.specs.Seen.{interrupt_seen, state_seen}
 

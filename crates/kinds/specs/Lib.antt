@@ -1,14 +1,8 @@
 pub mod Answer
-pub mod AnswerCases
 pub mod Checked
 pub mod Has
 pub mod Number
-pub mod NumberCases
-pub mod NumberLaws
 pub mod Outcome
-pub mod Powers
 pub mod Tests
 pub mod Turns
-pub mod TurnsLaws
 pub mod Words
-pub mod WordsLaws

@@ -6,7 +6,7 @@ use mathlib.Core.Bool.{cond}
 use Prim.Native.Nat.{ℕ, ◌-◌, ◌*◌, ◌%◌, ◌^◌, ◌≤◌, ◌<◌, min}
 use native.Mathlib.Nat.{min-eq_left, min-eq_right}
 use native.Mathlib.Omega.{arith}
-use Rattle.kinds.specs.Powers.{one_shl, one_shl_pos}
+use Rattle.kinds.proofs.Powers.{one_shl, one_shl_pos}
 use Rattle.kinds.specs.declared.answer.Answer.{Answer}
 use Rattle.kinds.specs.declared.answer.Answer.TheVariants.{Pass}
 use Rattle.kinds.specs.declared.lookup.Hit.{Hit}

@@ -7,7 +7,7 @@ use Rattle.std.proofs.Common.{◌≡◌, ℕ, ◌+◌, ◌-◌, ◌*◌, ◌%◌
 use lib.Bits.{bit_and}
 use lib.Count.{count_trailing_zeros}
 use borrow.Author.Tests.{lt-leb, eqb-false}
-use Rattle.kinds.specs.Tests.{by_cases, and_left, and_right, and-true, and_false, or_right}
+use Rattle.kinds.proofs.Tests.{by_cases, and_left, and_right, and-true, and_false, or_right}
 use Rattle.kinds.specs.Words.{at}
 use Rattle.kinds.specs.declared.number.ByteAddress.{ByteAddress}
 use Rattle.kinds.specs.declared.record.Window.{Window}

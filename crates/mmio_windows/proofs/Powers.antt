@@ -12,8 +12,8 @@ use lib.Bits.{bit_and, and_mask}
 use lib.Count.{count_trailing_zeros}
 use lib.Pow.{shl-shr}
 use borrow.Author.Tests.{eqb-false}
-use Rattle.kinds.specs.Powers.{one_shl}
-use Rattle.kinds.specs.Tests.{by_cases, or_cases, or_left, or_right}
+use Rattle.kinds.proofs.Powers.{one_shl}
+use Rattle.kinds.proofs.Tests.{by_cases, or_cases, or_left, or_right}
 use Rattle.kinds.specs.declared.number.ByteAddress.{ByteAddress}
 use Rattle.profile.specs.Windows.{is_power, segment_of}
 use Rattle.mmio_windows.specs.Size.{Power, WindowSize}

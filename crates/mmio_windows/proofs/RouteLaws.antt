@@ -4,7 +4,7 @@
 --     route-m32, route-m64    M32 takes the address, or the M64 windows are asked
 -- Assumes nothing.
 use Rattle.std.proofs.Common.{◌≡◌, ℕ, zero, suc, ◌+◌, ◌-◌, ◌*◌, ◌%◌, ◌^◌, ◌<◌, ◌≤◌, Bool, true, false, cond, ◌&&◌, eqb, ltb, leb, List, sym, refl, ap, ◌∙◌, sub-one, arith, w64, Fits, ltb-true, leb-true}
-use Rattle.kinds.specs.Tests.{and_left, and_right}
+use Rattle.kinds.proofs.Tests.{and_left, and_right}
 use Rattle.kinds.specs.Words.{at, pe_at}
 use Rattle.kinds.specs.declared.lookup.Hit.{Hit}
 use Rattle.kinds.specs.declared.lookup.Hit.TheVariants.{At, Miss}

@@ -9,7 +9,7 @@ use lib.Dec.{eqb}
 use lib.ListN.{length, get_or, set, get_or-eq_default}
 use lib.Seq.{set_out}
 use borrow.Author.Tests.{eq-eqb, ne_eqb}
-use Rattle.kinds.specs.Tests.{by_cases}
+use Rattle.kinds.proofs.Tests.{by_cases}
 use Rattle.kinds.specs.Words.{at, no_pe, pe_at}
 use Rattle.kinds.specs.declared.number.PeNumber.{PeNumber}
 use Rattle.kinds.specs.declared.record.Interrupt.{Interrupt}

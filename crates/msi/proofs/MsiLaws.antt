@@ -13,7 +13,7 @@ use lib.Dec.{eqb, ltb}
 use borrow.Author.Tests.{eq-eqb, ne_eqb, ltb-true}
 use Rattle.kinds.specs.Number.{no_word}
 use Rattle.kinds.specs.Outcome.{failed}
-use Rattle.kinds.specs.Tests.{and_right}
+use Rattle.kinds.proofs.Tests.{and_right}
 use Rattle.kinds.specs.declared.answer.Answer.TheVariants.{Msi, Held}
 use Rattle.kinds.specs.declared.answer.Reason.TheVariants.{MsiRefused}
 use Rattle.kinds.specs.declared.number.ByteAddress.{ByteAddress}

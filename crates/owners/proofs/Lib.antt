@@ -1,1 +1,2 @@
+pub mod ByOwnerLaws
 pub mod OwnerLaws

@@ -1,2 +1,1 @@
 pub mod ByOwner
-pub mod ByOwnerLaws

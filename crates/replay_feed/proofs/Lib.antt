@@ -1,2 +1,4 @@
+pub mod FeedCases
+pub mod FeedLaws
 pub mod Laws
 pub mod TakeLaws

@@ -16,15 +16,15 @@ use lib.ListN.{length, take, drop, get_or, set, length-set, drop_of_length-le, l
 use lib.Seq.{drop-cons, drop-drop, get_or-drop}
 use borrow.Author.Tests.{ne_eqb, lt-ltb, le-ltb, eqb-true, eq-eqb, le-leb, ltb-true}
 use Rattle.replay_text.specs.Bytes.{line_feed}
-use Rattle.kinds.specs.Tests.{by_cases, clash}
+use Rattle.kinds.proofs.Tests.{by_cases, clash}
 use Rattle.replay_session.specs.EndPromise.{EndedTo}
 use Rattle.replay_session.specs.Standing.{Standing, Buffers, buffers_of, progress_of, free, line_done, fits}
 use Rattle.replay_session.specs.declared.Ended.{Ended}
-use Rattle.replay_text.specs.SessionIsolation.{session-isolation}
+use Rattle.replay_text.proofs.SessionIsolation.{session-isolation}
 use Rattle.replay_text.specs.Stream.{line_kept, before}
-use Rattle.replay_text.specs.WholeLaws.{whole}
+use Rattle.replay_text.proofs.WholeLaws.{whole}
 use Rattle.replay_feed.specs.Feed.{Buffer, kept, kept_all, buffer_of, with_buffer, byte_in, Fed, stopped, later, feed_all, end_bytes, end_of}
-use Rattle.replay_feed.specs.FeedLaws.{in_text}
+use Rattle.replay_feed.proofs.FeedLaws.{in_text}
 use Rattle.replay_feed.specs.Promise.{KeptTo, MovedTo, moved_by, FedAs}
 use Rattle.replay_feed.specs.declared.Fed.{Fed as FedResult}
 use Rattle.replay_feed.specs.declared.Fed.TheVariants.{To, Unfit}

@@ -12,15 +12,15 @@ use lib.Dec.{ltb, leb}
 use lib.ListN.{length, take}
 use lib.Seq.{sets}
 use borrow.Author.Tests.{ltb-true, leb-true}
-use Rattle.kinds.specs.Tests.{by_cases, and_left, and_right}
+use Rattle.kinds.proofs.Tests.{by_cases, and_left, and_right}
 use Rattle.replay_text.specs.Line.{line_of}
 use Rattle.replay_text.specs.declared.Line.{Line}
 use Rattle.replay_text.specs.declared.Line.TheVariants.{Size, Set, Request, Bad}
 use Rattle.replay_text.specs.Text.{line_most}
 use Rattle.replay_session.specs.Promise.{RanLine}
 use Rattle.replay_text.specs.Session.{reply_to}
-use Rattle.replay_text.specs.SessionIsolation.{session-isolation}
-use Rattle.replay_session.specs.SessionLaws.{no_room_keeps}
+use Rattle.replay_text.proofs.SessionIsolation.{session-isolation}
+use Rattle.replay_session.proofs.SessionLaws.{no_room_keeps}
 use Rattle.replay_text.specs.Replay.{text_of}
 use Rattle.replay_tables.specs.Lent.{lent, in_use, lengths_in, room_for, after_in}
 use Rattle.replay_text.specs.SessionTables.{Session, settable}

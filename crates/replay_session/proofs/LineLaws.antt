@@ -15,7 +15,7 @@ use Rattle.replay_text.specs.declared.Reply.{Reply}
 use Rattle.replay_text.specs.declared.Reply.TheVariants.{Says}
 use Rattle.replay_session.specs.Promise.{RanLine, Requested}
 use Rattle.replay_text.specs.Session.{reply_to}
-use Rattle.replay_text.specs.SessionIsolation.{session-isolation}
+use Rattle.replay_text.proofs.SessionIsolation.{session-isolation}
 
 module _ (b : Lent) (l : Line) (r : Reply) (c : Lent) where
   pub ran_size : {n m q w : ℕ} → l ≡ Size n m q w → SizedTo b (extent_of n m q w) r c → RanLine b l r c

@@ -15,13 +15,13 @@ use lib.Dec.{eqb, ltb, leb}
 use lib.ListN.{length, take}
 use lib.Seq.{sets, take_all, length-take-le}
 use borrow.Author.Tests.{lt-ltb, le-ltb, lt-leb, le-leb, leb-true, leb-false, eq-eqb, ne_eqb}
-use Rattle.kinds.specs.Tests.{by_cases, clash}
+use Rattle.kinds.proofs.Tests.{by_cases, clash}
 use Rattle.kinds.specs.declared.answer.Numbers.{Numbers}
 use Rattle.replay_text.specs.Text.{answer_line, line_most}
-use Rattle.replay_text.specs.TextLaws.{line-most}
+use Rattle.replay_text.proofs.TextLaws.{line-most}
 use Rattle.text_report.specs.Placed.{placed}
 use Rattle.text_report.specs.Written.{written}
-use Rattle.text_report.specs.WrittenLaws.{written_is}
+use Rattle.text_report.proofs.WrittenLaws.{written_is}
 use Rattle.text_report.specs.declared.Written.{Written}
 use Rattle.text_report.specs.declared.Written.TheVariants.{To as WrittenTo, NoRoom}
 use Rattle.replay_tables.specs.declared.Replied.{Replied}

@@ -8,7 +8,7 @@ use Prim.Native.Nat.{ℕ, ◌*◌, ◌^◌}
 use native.Mathlib.Nat.{mul-one}
 use lib.Dec.{ltb}
 use lib.ListN.{take, set}
-use Rattle.kinds.specs.Tests.{by_cases}
+use Rattle.kinds.proofs.Tests.{by_cases}
 use Rattle.replay_text.specs.declared.Table.{Table}
 use Rattle.replay_text.specs.declared.Table.TheVariants.{Requesters, Entries, Memory, Peers, Interrupts, Windows, Segments, State}
 use Rattle.profile.specs.Tables.{entry_words, peer_words, interrupt_words, window_words, segment_count}

@@ -11,7 +11,7 @@ use Prim.Native.Nat.{ℕ, ◌-◌, ◌*◌, ◌/◌, ◌<◌, ◌≤◌}
 use native.Mathlib.Omega.{arith}
 use lib.Dec.{leb}
 use borrow.Author.Tests.{lt-leb, le-leb, leb-true, leb-false}
-use Rattle.kinds.specs.Tests.{and-true, by_cases}
+use Rattle.kinds.proofs.Tests.{and-true, by_cases}
 use Rattle.kinds.specs.declared.record.Lengths.{Lengths}
 use Rattle.replay_text.specs.declared.Line.TheVariants.{Size}
 use Rattle.profile.specs.Tables.{entry_words, peer_words, interrupt_words, state_words, fence_words, state_length, window_words, segment_count}

@@ -5,7 +5,7 @@ use Prim.Native.Nat.{ℕ, zero, suc, ◌<◌, ◌≤◌, ◌^◌}
 use native.Mathlib.Omega.{arith}
 use borrow.Author.Tests.{ne_eqb}
 use lib.Dec.{eqb, ltb}
-use Rattle.kinds.specs.Tests.{tests, by_cases, clash}
+use Rattle.kinds.proofs.Tests.{tests, by_cases, clash}
 use Rattle.kinds.specs.declared.request.Direction.{Direction}
 use Rattle.kinds.specs.declared.request.Direction.TheVariants.{Read, Write}
 use Rattle.kinds.specs.declared.request.Request.TheVariants.{Dma, Unnamed}

@@ -1,12 +1,5 @@
-pub mod EncodedLaws
 pub mod Layout
-pub mod LayoutCases
-pub mod LayoutLaws
 pub mod Run
 pub mod RunIsolation
-pub mod RunLaws
 pub mod RunOfList
 pub mod RunRelease
-pub mod RunReleaseCases
-pub mod RunWitness
-pub mod WordCases

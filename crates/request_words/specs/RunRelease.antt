@@ -13,8 +13,8 @@ use Rattle.kinds.specs.declared.lookup.Owner.TheVariants.{Of}
 use Rattle.kinds.specs.declared.number.PeNumber.{PeNumber}
 use Rattle.kinds.specs.declared.request.Request.{Request}
 use Rattle.history.specs.History.{history, cleared, stop_of, record_of, record_at, Zeros, unfrozen}
-use Rattle.history.specs.Release.{released, left_both}
-use Rattle.isolation.specs.Corollaries.{ran}
+use Rattle.history.proofs.Release.{released, left_both}
+use Rattle.isolation.proofs.Corollaries.{ran}
 use Rattle.isolation.specs.Isolation.{left}
 use Rattle.isolation.specs.View.{Bridge}
 use Rattle.profile.specs.Freeze.{stop_word}
@@ -23,7 +23,6 @@ use Rattle.profile.specs.Step.{answered}
 use Rattle.profile.specs.Tables.{Live}
 use Rattle.request_words.specs.Layout.{answer_words, decoded_at, requests_from, answer_list, words_at}
 use Rattle.request_words.specs.Run.{served, ran_to}
-use Rattle.request_words.specs.RunLaws.{room, ran_to-live, ran_to-answers}
 
 abbrev pub run_requests : (requests answers : List ℕ) → List Request
 run_requests w l = requests_from w 0 (served w l)
@@ -45,23 +44,3 @@ pub record RunReleased : Type 0 where
       → cleared a.tables k (history (ran a l) r) ≡ true
       → (w x : List ℕ) → 0 < served w x → owner a.tables (left (ran a l) r) (decoded_at w 0) ≡ Of k
       → answers_first a (left (ran a l) r) w x ≡ answers_first a (unfrozen a.tables.sizes.pes (left (ran a l) r)) w x
-
--- a run after a list leaves what the list of both leaves
-run_left_lem : (a : Bridge) (l : List Request) (w x : List ℕ) → run_left (ran a l) w x ≡ left a (l ++ run_requests w x)
-run_left_lem a l w x = ran_to-live a.tables a.memory w (left a l) x (served w x) ∙ sym (left_both a l (run_requests w x))
-
--- the words of the first answer
-first-words : (a : Bridge) (s : Live) (w x : List ℕ) (n : ℕ) → 0 < n → n * answer_words ≤ length x
-    → words_at (ran_to a.tables a.memory w s x n).answers 0 ≡ answer_list (answered a.tables a.memory s (decoded_at w 0))
-first-words a s w x zero o h = absurd (omega arith)
-first-words a s w x (suc n) o h = rw (ran_to-answers a.tables a.memory w s x (suc n) h)
-
-pub run_released : RunReleased
-run_released = record {
-  stop = λ a z l w x k low. rw (run_left_lem a l w x) (released.stop a z (l ++ run_requests w x) k low);
-  error_record = λ a z l w x k low. rw (run_left_lem a l w x) (released.error_record a z (l ++ run_requests w x) k low);
-  release = λ a z l r k low c w x o h.
-      let t = left (ran a l) r in
-      first-words a t w x (served w x) o (room w x) ∙ ap answer_list (released.release a z l r k low c (decoded_at w 0) h)
-      ∙ sym (first-words a (unfrozen a.tables.sizes.pes t) w x (served w x) o (room w x));
-}

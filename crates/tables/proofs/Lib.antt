@@ -1,2 +1,4 @@
 pub mod SizeLaws
+pub mod SizedLaws
+pub mod TablesLaws
 pub mod WordLaws

@@ -6,7 +6,7 @@ use Rattle.kinds.specs.declared.record.Sizes.{Sizes}
 use Rattle.kinds.specs.declared.record.Lengths.{Lengths}
 use Rattle.kinds.specs.Tests.{all}
 use Rattle.profile.specs.Tables.{most_pes, most_interrupts, limits, dma_lengths, other_lengths, sized}
-use Rattle.tables.specs.SizedLaws.{limits-pes, limits-interrupts, sized-is}
+use Rattle.tables.proofs.SizedLaws.{limits-pes, limits-interrupts, sized-is}
 
 module _ (z : Sizes) {b : Bool} (asked : b ≡ all (limits z)) where
   pub few-pes : b ≡ true → z.pes ≤ most_pes

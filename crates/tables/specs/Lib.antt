@@ -1,3 +1,1 @@
-pub mod SizedLaws
 pub mod Tables
-pub mod TablesLaws

@@ -11,7 +11,7 @@ use lib.Seq.{drop-cons, take_all}
 use borrow.Author.Tests.{eq-eqb, ne_eqb}
 use Rattle.replay_text.specs.Bytes.{tab}
 use Rattle.replay_text.specs.Field.{is}
-use Rattle.replay_text.specs.FieldLaws.{is-other}
+use Rattle.replay_text.proofs.FieldLaws.{is-other}
 use Rattle.text_fields.specs.Place.{cut_of, first_of, field_after}
 
 -- the same bytes, from place i on

@@ -11,7 +11,7 @@ use Prim.Native.Nat.{ℕ, zero, suc}
 use Prim.Native.String.{String}
 use Rattle.replay_text.specs.Bytes.{bytes}
 use Rattle.replay_text.specs.Field.{is}
-use Rattle.replay_text.specs.FieldLaws.{is_same}
+use Rattle.replay_text.proofs.FieldLaws.{is_same}
 use Rattle.replay_text.specs.Line.{tables, directions, parts}
 use Rattle.kinds.specs.declared.request.Direction.TheVariants.{Write}
 use Rattle.kinds.specs.declared.request.Part.TheVariants.{Record}

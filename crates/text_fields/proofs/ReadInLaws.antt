@@ -8,7 +8,7 @@ use Rattle.text_fields.specs.declared.Field.{Field}
 use Rattle.text_fields.specs.declared.Kind.{Kind}
 use Rattle.text_fields.specs.declared.Kind.TheVariants.{Number, Table, Direction, Part}
 use Rattle.text_fields.specs.Place.{field_after}
-use Rattle.text_fields.specs.PlaceLaws.{after-end}
+use Rattle.text_fields.proofs.PlaceLaws.{after-end}
 use Rattle.text_fields.specs.Reading.{place_from, read_as, field_read}
 
 pub as_kind : (k j : Kind) (t : List ℕ) (e q : ℕ) {x : Field} → k ≡ j → x ≡ read_as j t e q → x ≡ read_as k t e q

@@ -1,4 +1,2 @@
 pub mod Place
-pub mod PlaceLaws
-pub mod ReadLaws
 pub mod Reading

@@ -9,9 +9,9 @@ use lib.ListN.{length, set}
 use lib.Seq.{sets}
 use borrow.Author.Tests.{lt-ltb, le-ltb}
 use Rattle.replay_text.specs.Digits.{glyph, digits, places_from, places, decimal, ended_by, decimal_digits}
-use Rattle.replay_text.specs.DigitsLaws.{length_ended, length_digits}
+use Rattle.replay_text.proofs.DigitsLaws.{length_ended, length_digits}
 use Rattle.text_report.specs.Placed.{Wrote}
-use Rattle.text_report.specs.WrittenLaws.{sets_append, sets_last}
+use Rattle.text_report.proofs.WrittenLaws.{sets_append, sets_last}
 
 -- digits, the last first; i are left to write, those of r
 module _ (l m : List ℕ) (a b k n : ℕ) where

@@ -6,7 +6,7 @@ use native.Mathlib.Omega.{arith}
 use lib.ListN.{length}
 use Rattle.replay_text.specs.Name.{name_of}
 use Rattle.text_report.specs.Padded.{padded}
-use Rattle.replay_text.specs.NameLaws.{name_bad}
+use Rattle.replay_text.proofs.NameLaws.{name_bad}
 
 pub named : (x k : ℕ) → x ≡ k → {t : List ℕ} → t ≡ padded (name_of k) → t ≡ padded (name_of x)
 named x k e h = rw e h

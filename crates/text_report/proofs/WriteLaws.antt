@@ -10,17 +10,17 @@ use lib.ListN.{length, take, drop, get_or, set, drop_of_length-le, length-append
 use lib.Seq.{sets, length-sets, drop-cons}
 use borrow.Author.Tests.{le-leb}
 use Rattle.replay_text.specs.Digits.{decimal, hexadecimal, ended_by, decimal_room, hexadecimal_room}
-use Rattle.replay_text.specs.DigitsLaws.{length_ended, decimal-room, hexadecimal-room}
+use Rattle.replay_text.proofs.DigitsLaws.{length_ended, decimal-room, hexadecimal-room}
 use Rattle.text_report.specs.Written.{free_for}
 use Rattle.replay_text.specs.Bytes.{tab, line_feed}
 use Rattle.text_report.specs.Padded.{padded}
-use Rattle.replay_text.specs.NameLaws.{name_most_lem}
-use Rattle.text_report.specs.PaddedLaws.{padded_length, padded_name}
+use Rattle.replay_text.proofs.NameLaws.{name_most_lem}
+use Rattle.text_report.proofs.PaddedLaws.{padded_length, padded_name}
 use Rattle.replay_text.specs.Name.{name_of}
 use Rattle.replay_text.specs.Text.{head_of, tail_of, name_room, head_most, tail_most, line_most}
-use Rattle.replay_text.specs.TextLaws.{head_most_lem}
+use Rattle.replay_text.proofs.TextLaws.{head_most_lem}
 use Rattle.text_report.specs.Placed.{placed, Wrote}
-use Rattle.text_report.specs.WrittenLaws.{sets_append}
+use Rattle.text_report.proofs.WrittenLaws.{sets_append}
 use Rattle.text_report.specs.declared.Written.TheVariants.{To, NoRoom}
 
 -- a copy, from byte i on

@@ -1,5 +1,5 @@
 -- `cache_lists::decode_invalidate` meets its contract. Assumes nothing.
-use Rattle.kinds.specs.Tests.{tests}
+use Rattle.kinds.proofs.Tests.{tests}
 use Rattle.cache_words.specs.Operations.{decoded_invalidate}
 use Rattle.cache_lists.proofs.decode_invalidate.Statement.{statement}
 use Rattle.cache_lists.proofs.decode_invalidate.Tie as tie

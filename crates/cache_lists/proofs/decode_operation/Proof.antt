@@ -1,6 +1,6 @@
 -- `cache_lists::decode_operation` meets its contract. Assumes nothing.
 use Rattle.cache_lists.proofs.ListLaws as laws
-use Rattle.kinds.specs.Tests.{tests}
+use Rattle.kinds.proofs.Tests.{tests}
 use Rattle.cache_words.specs.Operations.{decoded_operation}
 use borrow.Author.Rules.{rules}
 use Rattle.cache_lists.proofs.decode_operation.Statement.{statement}

@@ -1,5 +1,5 @@
 -- `decide::by_requester` meets its contract. Assumes nothing.
-use Rattle.owners.specs.ByOwnerLaws.{of_nobody}
+use Rattle.owners.proofs.ByOwnerLaws.{of_nobody}
 use Rattle.decide.proofs.AskLaws as laws
 use borrow.Author.Rules.{rules}
 use Rattle.decide.proofs.by_requester.Statement.{statement}

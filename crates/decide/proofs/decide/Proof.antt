@@ -1,5 +1,5 @@
 -- `decide::decide` meets its contract. Assumes nothing.
-use Rattle.decide.specs.FinishedLaws as laws
+use Rattle.decide.proofs.FinishedLaws as laws
 use borrow.Author.Rules.{rules}
 use Rattle.decide.proofs.decide.Statement.{statement}
 use Rattle.decide.proofs.decide.Tie as tie

@@ -1,5 +1,5 @@
 -- `decide::fatal_message` meets its contract. Assumes nothing.
-use Rattle.owners.specs.ByOwnerLaws as by-owner
+use Rattle.owners.proofs.ByOwnerLaws as by-owner
 use borrow.Author.Rules.{rules}
 use Rattle.decide.proofs.fatal_message.Statement.{statement}
 use Rattle.decide.proofs.fatal_message.Tie as tie

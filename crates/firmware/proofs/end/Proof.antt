@@ -1,5 +1,5 @@
 -- `firmware::end` meets its contract. Assumes nothing.
-use Rattle.owners.specs.ByOwnerLaws as by-owner
+use Rattle.owners.proofs.ByOwnerLaws as by-owner
 use Rattle.firmware.proofs.RequestLaws as laws
 use borrow.Author.Rules.{rules}
 use Rattle.firmware.proofs.end.Statement.{statement}

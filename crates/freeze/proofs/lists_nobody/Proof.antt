@@ -1,7 +1,7 @@
 -- `freeze::lists_nobody` meets its contract. Assumes nothing.
 use mathlib.Core.Bool.{and-true}
 use borrow.Author.Rules.{rules}
-use Rattle.kinds.specs.Tests.{tests}
+use Rattle.kinds.proofs.Tests.{tests}
 use Rattle.freeze.proofs.lists_nobody.Statement.{statement}
 use Rattle.freeze.proofs.lists_nobody.Tie as tie
 

@@ -1,5 +1,5 @@
 -- `mmio::access_of` meets its contract. Assumes nothing.
-use Rattle.owners.specs.ByOwnerLaws as by-owner
+use Rattle.owners.proofs.ByOwnerLaws as by-owner
 use Rattle.mmio.proofs.OwnedLaws as laws
 use borrow.Author.Rules.{rules}
 use Rattle.mmio.proofs.access_of.Statement.{statement}

@@ -1,5 +1,5 @@
 -- `mmio::unless_stopped` meets its contract. Assumes nothing.
-use Rattle.kinds.specs.Tests.{tests}
+use Rattle.kinds.proofs.Tests.{tests}
 use Rattle.mmio.proofs.unless_stopped.Statement.{statement}
 use Rattle.mmio.proofs.unless_stopped.Tie as tie
 

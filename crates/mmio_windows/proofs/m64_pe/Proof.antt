@@ -1,7 +1,7 @@
 -- `mmio_windows::m64_pe` meets its contract. Assumes nothing.
 use Rattle.profile.specs.Windows.{m64_pe}
 use Rattle.mmio_windows.proofs.RouteLaws as laws
-use Rattle.kinds.specs.Tests.{tests}
+use Rattle.kinds.proofs.Tests.{tests}
 use Rattle.mmio_windows.proofs.m64_pe.Statement.{statement}
 use Rattle.mmio_windows.proofs.m64_pe.Tie as tie
 

@@ -1,7 +1,7 @@
 -- `msi::deliver` meets its contract. Assumes nothing.
 use Rattle.msi.proofs.MsiLaws as laws
 use Rattle.profile.specs.Msi.{delivered}
-use Rattle.kinds.specs.Tests.{tests}
+use Rattle.kinds.proofs.Tests.{tests}
 use borrow.Author.Rules.{rules}
 use Rattle.msi.proofs.deliver.Statement.{statement}
 use Rattle.msi.proofs.deliver.Tie as tie

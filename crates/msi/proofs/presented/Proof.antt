@@ -1,6 +1,6 @@
 -- `msi::presented` meets its contract. Assumes nothing.
 use Rattle.profile.specs.Msi.{presents}
-use Rattle.kinds.specs.Tests.{tests}
+use Rattle.kinds.proofs.Tests.{tests}
 use Rattle.msi.proofs.presented.Statement.{statement}
 use Rattle.msi.proofs.presented.Tie as tie
 

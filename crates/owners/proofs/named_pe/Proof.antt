@@ -1,5 +1,5 @@
 -- `owners::named_pe` meets its contract. Assumes nothing.
-use Rattle.kinds.specs.Tests.{tests}
+use Rattle.kinds.proofs.Tests.{tests}
 use Rattle.profile.specs.Tables.{named}
 use borrow.Author.Rules.{rules}
 use Rattle.owners.proofs.named_pe.Statement.{statement}

@@ -1,6 +1,6 @@
 -- `owners::of_requester` meets its contract. Assumes nothing.
 use Rattle.owners.proofs.OwnerLaws as laws
-use Rattle.kinds.specs.Tests.{tests}
+use Rattle.kinds.proofs.Tests.{tests}
 use borrow.Author.Rules.{rules}
 use Rattle.owners.proofs.of_requester.Statement.{statement}
 use Rattle.owners.proofs.of_requester.Tie as tie

@@ -4,7 +4,7 @@ use mathlib.Core.Bool.{true}
 use Prim.Native.Nat.{◌-◌}
 use lib.ListN.{length}
 use Rattle.replay_session.specs.Standing.{standing, buffers, fits}
-use Rattle.replay_session.specs.StandingLaws.{fit-both}
+use Rattle.replay_session.proofs.StandingLaws.{fit-both}
 use Rattle.replay_feed.proofs.TakeLaws as laws
 use Rattle.replay_feed.proofs.TakeLaws.{Here}
 use borrow.Author.Rules.{rules}

@@ -2,7 +2,7 @@
 use mathlib.Core.Path.{refl}
 use lib.ListN.{length}
 use borrow.Author.Tests.{eq-eqb}
-use Rattle.replay_text.specs.WholeLaws.{whole}
+use Rattle.replay_text.proofs.WholeLaws.{whole}
 use Rattle.replay_feed.proofs.start.Statement.{statement}
 use Rattle.replay_feed.proofs.start.Tie as tie
 

@@ -1,6 +1,6 @@
 -- `text_lines::parse` meets its contract. Assumes nothing.
-use Rattle.replay_text.specs.FormLaws as laws
-use Rattle.text_fields.specs.ReadLaws.{line-is}
+use Rattle.replay_text.proofs.FormLaws as laws
+use Rattle.text_fields.proofs.ReadLaws.{line-is}
 use borrow.Author.Rules.{rules}
 use Rattle.text_lines.proofs.parse.Statement.{statement}
 use Rattle.text_lines.proofs.parse.Tie as tie

@@ -1,6 +1,6 @@
 -- `text_lines::size_within` meets its contract. Assumes nothing.
 use Rattle.replay_text.specs.Line.{sized}
-use Rattle.kinds.specs.Tests.{tests}
+use Rattle.kinds.proofs.Tests.{tests}
 use Rattle.text_lines.proofs.size_within.Statement.{statement}
 use Rattle.text_lines.proofs.size_within.Tie as tie
 

@@ -1,6 +1,6 @@
 -- `text_report::write_header` meets its contract. Assumes nothing.
 use Rattle.text_report.proofs.WriteLaws as laws
-use Rattle.text_report.specs.FreeLaws as room
+use Rattle.text_report.proofs.FreeLaws as room
 use borrow.Author.Rules.{rules}
 use Rattle.text_report.proofs.write_header.Statement.{statement}
 use Rattle.text_report.proofs.write_header.Tie as tie

@@ -1,7 +1,7 @@
 -- `text_report::write_line` meets its contract. Assumes nothing.
 use Rattle.text_report.proofs.WriteLaws as laws
-use Rattle.replay_text.specs.TextLaws.{line-most}
-use Rattle.text_report.specs.FreeLaws as room
+use Rattle.replay_text.proofs.TextLaws.{line-most}
+use Rattle.text_report.proofs.FreeLaws as room
 use borrow.Author.Rules.{rules}
 use Rattle.text_report.proofs.write_line.Statement.{statement}
 use Rattle.text_report.proofs.write_line.Tie as tie

@@ -1,7 +1,7 @@
 -- `decide::forms::access_formed` meets its contract. Assumes nothing.
 use Rattle.profile.specs.Step.{access_formed}
 use Rattle.decide.proofs.FormLaws as laws
-use Rattle.kinds.specs.Tests.{tests}
+use Rattle.kinds.proofs.Tests.{tests}
 use Rattle.decide.proofs.forms.access_formed.Statement.{statement}
 use Rattle.decide.proofs.forms.access_formed.Tie as tie
 

@@ -1,6 +1,6 @@
 -- `decide::forms::dma_formed` meets its contract. Assumes nothing.
 use Rattle.profile.specs.Step.{dma_formed}
-use Rattle.kinds.specs.Tests.{tests}
+use Rattle.kinds.proofs.Tests.{tests}
 use borrow.Author.Rules.{rules}
 use Rattle.decide.proofs.forms.dma_formed.Statement.{statement}
 use Rattle.decide.proofs.forms.dma_formed.Tie as tie

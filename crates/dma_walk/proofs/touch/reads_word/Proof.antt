@@ -7,7 +7,7 @@ use borrow.Author.Rules.{rules}
 use Rattle.kinds.specs.Has.{has}
 use Rattle.profile.specs.Entry.{aligned, offset_bits, most_table_code, code_bits, most_levels}
 use Rattle.profile.specs.Walk.{walk_from}
-use Rattle.dma_walk.specs.LoopLaws as loop
+use Rattle.dma_walk.proofs.LoopLaws as loop
 use Rattle.dma_walk.proofs.TouchLaws as laws
 use Rattle.dma_walk.proofs.touch.reads_word.Statement.{statement}
 use Rattle.dma_walk.proofs.touch.reads_word.Tie as tie

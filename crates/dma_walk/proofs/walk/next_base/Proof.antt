@@ -1,5 +1,5 @@
 -- `dma_walk::walk::next_base` meets its contract. Assumes nothing.
-use Rattle.dma_walk.specs.StepLaws as laws
+use Rattle.dma_walk.proofs.StepLaws as laws
 use Rattle.dma_walk.proofs.walk.next_base.Statement.{statement}
 use Rattle.dma_walk.proofs.walk.next_base.Tie as tie
 

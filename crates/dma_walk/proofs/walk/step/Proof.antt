@@ -1,5 +1,5 @@
 -- `dma_walk::walk::step` meets its contract. Assumes nothing.
-use Rattle.dma_walk.specs.StepLaws as laws
+use Rattle.dma_walk.proofs.StepLaws as laws
 use borrow.Author.Rules.{rules}
 use Rattle.dma_walk.proofs.walk.step.Statement.{statement}
 use Rattle.dma_walk.proofs.walk.step.Tie as tie

@@ -7,8 +7,8 @@ use borrow.Author.Rules.{rules}
 use Rattle.profile.specs.Entry.{aligned, offset_bits, most_table_code, code_bits, most_levels}
 use Rattle.profile.specs.Walk.{walk_from}
 use Rattle.dma_walk.specs.Turn.{counted}
-use Rattle.dma_walk.specs.LoopLaws.{later}
-use Rattle.dma_walk.specs.LoopLaws as laws
+use Rattle.dma_walk.proofs.LoopLaws.{later}
+use Rattle.dma_walk.proofs.LoopLaws as laws
 use Rattle.dma_walk.proofs.walk.walk.Statement.{statement}
 use Rattle.dma_walk.proofs.walk.walk.Tie as tie
 

@@ -1,6 +1,6 @@
 -- `firmware::interrupt::ended` meets its contract. Assumes nothing.
 use Rattle.profile.specs.Firmware.{ends}
-use Rattle.kinds.specs.Tests.{tests}
+use Rattle.kinds.proofs.Tests.{tests}
 use borrow.Author.Rules.{rules}
 use Rattle.firmware.proofs.interrupt.ended.Statement.{statement}
 use Rattle.firmware.proofs.interrupt.ended.Tie as tie

@@ -1,6 +1,6 @@
 -- `firmware::interrupt::prioritized` meets its contract. Assumes nothing.
 use Rattle.profile.specs.Firmware.{prioritized}
-use Rattle.kinds.specs.Tests.{tests}
+use Rattle.kinds.proofs.Tests.{tests}
 use borrow.Author.Rules.{rules}
 use Rattle.firmware.proofs.interrupt.prioritized.Statement.{statement}
 use Rattle.firmware.proofs.interrupt.prioritized.Tie as tie

@@ -6,7 +6,7 @@ use Prim.Native.Nat.{◌-◌, ◌≤◌}
 use native.Mathlib.Omega.{arith}
 use lib.ListN.{length}
 use Rattle.kinds.specs.Turns.{turns}
-use Rattle.kinds.specs.TurnsLaws.{turns_next}
+use Rattle.kinds.proofs.TurnsLaws.{turns_next}
 use Rattle.isolation_reach.specs.Footprint.{pe_turn}
 use Rattle.isolation_reach.proofs.footprint.mark_pes.Statement.{statement}
 use Rattle.isolation_reach.proofs.footprint.mark_pes.Tie as tie

@@ -6,7 +6,7 @@ use Prim.Native.Nat.{◌-◌, ◌≤◌}
 use native.Mathlib.Omega.{arith}
 use lib.ListN.{length}
 use Rattle.kinds.specs.Turns.{turns}
-use Rattle.kinds.specs.TurnsLaws.{turns_next}
+use Rattle.kinds.proofs.TurnsLaws.{turns_next}
 use Rattle.isolation_reach.specs.Marks.{table_turn}
 use Rattle.isolation_reach.proofs.levels.mark_tables.Statement.{statement}
 use Rattle.isolation_reach.proofs.levels.mark_tables.Tie as tie

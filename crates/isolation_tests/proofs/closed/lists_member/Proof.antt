@@ -1,7 +1,7 @@
 -- `isolation_tests::closed::lists_member` meets its contract. The invariant: none of the numbers passed is found. The measure is how many are left. Assumes nothing.
 use Rattle.isolation_tests.specs.Group.{member_listed}
 use Rattle.isolation_groups.specs.Any.{any}
-use Rattle.isolation_groups.specs.AnyLaws.{any_found, any_next, any-done}
+use Rattle.isolation_groups.proofs.AnyLaws.{any_found, any_next, any-done}
 use Prim.Native.Nat.{◌≤◌}
 use mathlib.Core.Path.{◌≡◌}
 use borrow.Author.Rules.{rules}

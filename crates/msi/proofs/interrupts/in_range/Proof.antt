@@ -1,6 +1,6 @@
 -- `msi::interrupts::in_range` meets its contract. Assumes nothing.
 use Rattle.profile.specs.Msi.{ranged}
-use Rattle.kinds.specs.Tests.{tests}
+use Rattle.kinds.proofs.Tests.{tests}
 use borrow.Author.Rules.{rules}
 use Rattle.msi.proofs.interrupts.in_range.Statement.{statement}
 use Rattle.msi.proofs.interrupts.in_range.Tie as tie

@@ -1,6 +1,6 @@
 -- `request_lists::layout::decode` meets its contract. Assumes nothing.
 use borrow.Author.Rules.{rules}
-use Rattle.kinds.specs.Tests.{tests}
+use Rattle.kinds.proofs.Tests.{tests}
 use Rattle.request_words.specs.Layout.{decoded}
 use Rattle.request_lists.proofs.layout.decode.Statement.{statement}
 use Rattle.request_lists.proofs.layout.decode.Tie as tie

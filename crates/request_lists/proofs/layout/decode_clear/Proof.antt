@@ -1,5 +1,5 @@
 -- `request_lists::layout::decode_clear` meets its contract. Assumes nothing.
-use Rattle.kinds.specs.Tests.{tests}
+use Rattle.kinds.proofs.Tests.{tests}
 use Rattle.request_words.specs.Layout.{decoded_clear}
 use Rattle.request_lists.proofs.layout.decode_clear.Statement.{statement}
 use Rattle.request_lists.proofs.layout.decode_clear.Tie as tie

@@ -1,6 +1,6 @@
 -- `request_lists::layout::decode_dma` meets its contract. Assumes nothing.
 use borrow.Author.Rules.{rules}
-use Rattle.kinds.specs.Tests.{tests}
+use Rattle.kinds.proofs.Tests.{tests}
 use Rattle.request_lists.proofs.DecodeLaws as laws
 use Rattle.request_words.specs.Layout.{decoded_dma}
 use Rattle.request_lists.proofs.layout.decode_dma.Statement.{statement}

@@ -1,5 +1,5 @@
 -- `request_lists::layout::direction_of` meets its contract. Assumes nothing.
-use Rattle.kinds.specs.Tests.{tests}
+use Rattle.kinds.proofs.Tests.{tests}
 use Rattle.request_lists.proofs.layout.direction_of.Statement.{statement}
 use Rattle.request_lists.proofs.layout.direction_of.Tie as tie
 

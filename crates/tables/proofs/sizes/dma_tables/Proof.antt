@@ -1,6 +1,6 @@
 -- `tables::sizes::dma_tables` meets its contract. Assumes nothing.
 use mathlib.Core.Bool.{and-true}
-use Rattle.kinds.specs.Tests.{tests}
+use Rattle.kinds.proofs.Tests.{tests}
 use borrow.Author.Rules.{rules}
 use Rattle.tables.proofs.sizes.dma_tables.Statement.{statement}
 use Rattle.tables.proofs.sizes.dma_tables.Tie as tie

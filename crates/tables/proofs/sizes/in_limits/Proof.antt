@@ -1,6 +1,6 @@
 -- `tables::sizes::in_limits` meets its contract. Assumes nothing.
 use mathlib.Core.Bool.{and-true}
-use Rattle.kinds.specs.Tests.{tests}
+use Rattle.kinds.proofs.Tests.{tests}
 use Rattle.tables.proofs.sizes.in_limits.Statement.{statement}
 use Rattle.tables.proofs.sizes.in_limits.Tie as tie
 

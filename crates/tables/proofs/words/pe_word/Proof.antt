@@ -1,6 +1,6 @@
 -- `tables::words::pe_word` meets its contract. Assumes nothing.
 use borrow.Author.Rules.{rules}
-use Rattle.kinds.specs.WordsLaws.{pe_in}
+use Rattle.kinds.proofs.WordsLaws.{pe_in}
 use Rattle.tables.proofs.WordLaws as laws
 use Rattle.tables.proofs.words.pe_word.Statement.{statement}
 use Rattle.tables.proofs.words.pe_word.Tie as tie

@@ -1,7 +1,7 @@
 -- `tables::words::short_pe_word` meets its contract. Assumes nothing.
 use borrow.Author.Rules.{rules}
 use native.Mathlib.Omega.{arith}
-use Rattle.kinds.specs.WordsLaws.{pe_in}
+use Rattle.kinds.proofs.WordsLaws.{pe_in}
 use Rattle.tables.proofs.WordLaws as laws
 use Rattle.tables.proofs.words.short_pe_word.Statement.{statement}
 use Rattle.tables.proofs.words.short_pe_word.Tie as tie

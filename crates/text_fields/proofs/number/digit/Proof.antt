@@ -1,5 +1,5 @@
 -- `text_fields::number::digit` meets its contract. Assumes nothing.
-use Rattle.kinds.specs.Tests.{tests}
+use Rattle.kinds.proofs.Tests.{tests}
 use borrow.Author.Rules.{rules}
 use Rattle.text_fields.proofs.number.digit.Statement.{statement}
 use Rattle.text_fields.proofs.number.digit.Tie as tie

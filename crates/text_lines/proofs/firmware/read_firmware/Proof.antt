@@ -1,5 +1,5 @@
 -- `text_lines::firmware::read_firmware` meets its contract. Assumes nothing.
-use Rattle.replay_text.specs.FormLaws as laws
+use Rattle.replay_text.proofs.FormLaws as laws
 use borrow.Author.Rules.{rules}
 use Rattle.text_lines.proofs.firmware.read_firmware.Statement.{statement}
 use Rattle.text_lines.proofs.firmware.read_firmware.Tie as tie

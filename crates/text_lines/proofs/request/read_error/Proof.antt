@@ -1,5 +1,5 @@
 -- `text_lines::request::read_error` meets its contract. Assumes nothing.
-use Rattle.text_fields.specs.ReadLaws as laws
+use Rattle.text_fields.proofs.ReadLaws as laws
 use borrow.Author.Rules.{rules}
 use Rattle.text_lines.proofs.request.read_error.Statement.{statement}
 use Rattle.text_lines.proofs.request.read_error.Tie as tie

@@ -1,5 +1,5 @@
 -- `text_lines::request::read_load` meets its contract. Assumes nothing.
-use Rattle.text_fields.specs.ReadLaws as laws
+use Rattle.text_fields.proofs.ReadLaws as laws
 use borrow.Author.Rules.{rules}
 use Rattle.text_lines.proofs.request.read_load.Statement.{statement}
 use Rattle.text_lines.proofs.request.read_load.Tie as tie

@@ -1,5 +1,5 @@
 -- `text_lines::request::read_request` meets its contract. Assumes nothing.
-use Rattle.replay_text.specs.FormLaws as laws
+use Rattle.replay_text.proofs.FormLaws as laws
 use borrow.Author.Rules.{rules}
 use Rattle.text_lines.proofs.request.read_request.Statement.{statement}
 use Rattle.text_lines.proofs.request.read_request.Tie as tie

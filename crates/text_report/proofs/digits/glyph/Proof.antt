@@ -1,5 +1,5 @@
 -- `text_report::digits::glyph` meets its contract. Assumes nothing.
-use Rattle.kinds.specs.Tests.{tests}
+use Rattle.kinds.proofs.Tests.{tests}
 use borrow.Author.Rules.{rules}
 use Rattle.text_report.proofs.digits.glyph.Statement.{statement}
 use Rattle.text_report.proofs.digits.glyph.Tie as tie

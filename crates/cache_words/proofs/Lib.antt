@@ -1,0 +1,4 @@
+pub mod CachedRunLaws
+pub mod Either
+pub mod OperationsCases
+pub mod OperationsLaws

@@ -1,0 +1,3 @@
+pub mod EditsCases
+pub mod EditsLaws
+pub mod ReachLaws

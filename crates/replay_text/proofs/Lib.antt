@@ -1,0 +1,15 @@
+pub mod DigitsLaws
+pub mod EveryLine
+pub mod FieldLaws
+pub mod FormLaws
+pub mod LineCases
+pub mod LineLaws
+pub mod NameLaws
+pub mod ReplayCases
+pub mod SessionCases
+pub mod SessionIsolation
+pub mod SessionWitness
+pub mod TextCases
+pub mod TextIsolation
+pub mod TextLaws
+pub mod WholeLaws

@@ -1,0 +1,10 @@
+pub mod EncodedLaws
+pub mod LayoutCases
+pub mod LayoutLaws
+pub mod RunIsolation
+pub mod RunLaws
+pub mod RunOfList
+pub mod RunRelease
+pub mod RunReleaseCases
+pub mod RunWitness
+pub mod WordCases
