@@ -1,4 +1,4 @@
-// The functions that Rust and C call: numbers and slices only. A slice passes as its first element's address and its length.
+// What the functions that Rust and C call do: numbers and slices only.
 ghost use Rattle.std.specs.Prelude.{◌≡◌};
 ghost use Rattle.bridge.specs.CachedPromise.{RanCached};
 ghost use Rattle.bridge.specs.Promise.{RanAll};
@@ -20,8 +20,7 @@ fn sizes_of(pes: u64, interrupt_count: u64, requester_count: u64) -> Sizes
 }
 
 // Serves the requests in `requests` on the lent tables, and writes their answers. N, M, R and the installed size in bytes come first.
-#[unsafe(no_mangle)]
-pub extern "C" fn celltimber_run(
+pub fn celltimber_run(
     pes: u64,
     interrupt_count: u64,
     requester_count: u64,
@@ -48,8 +47,7 @@ pub extern "C" fn celltimber_run(
 
 // The same with a translation cache: memory and cache are lent to be written, and lists have edits and invalidates too. A sequence starts with the invalidate for
 // all, which the caller sends: nothing here empties the cache by itself.
-#[unsafe(no_mangle)]
-pub extern "C" fn celltimber_cached_run(
+pub fn celltimber_cached_run(
     pes: u64,
     interrupt_count: u64,
     requester_count: u64,

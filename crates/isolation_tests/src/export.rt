@@ -1,4 +1,4 @@
-// The functions that Rust and C call: numbers and slices only. A slice passes as its first element's address and its length.
+// What the functions that Rust and C call do: numbers and slices only.
 ghost use Rattle.std.specs.Prelude.{◌≡◌};
 ghost use Rattle.cache_words.specs.Operations.{decoded_operation};
 ghost use Rattle.edits.specs.Edits.{scope_owner};
@@ -51,8 +51,7 @@ fn scope_number(pes: u16, scope: Scope) -> u64
 
 // The number of the PE that owns the request of six words, or the operation on the bridge with a translation cache. 65,536 for nobody, for an edit, whose owner
 // is asked of the group by `celltimber_covers`, and where N is above its limit. N, M and R come first.
-#[unsafe(no_mangle)]
-pub extern "C" fn celltimber_owner(
+pub fn celltimber_owner(
     pes: u64,
     interrupt_count: u64,
     requester_count: u64,
@@ -98,16 +97,14 @@ pub extern "C" fn celltimber_owner(
 }
 
 // 1 if the number is that of a member of the group, else 0.
-#[unsafe(no_mangle)]
-pub extern "C" fn celltimber_member(group: &[u64], number: u64) -> u64
+pub fn celltimber_member(group: &[u64], number: u64) -> u64
     ensures { result ≡ flag (member_of group.now number) }
 {
     flag(isolation_groups::is_member(group, number))
 }
 
 // 1 if no PE below N outside the group lists a member below N in its peer vector, else 0. 0 also where N is above its limit.
-#[unsafe(no_mangle)]
-pub extern "C" fn celltimber_closed(pes: u64, peers: &[u64], group: &[u64]) -> u64
+pub fn celltimber_closed(pes: u64, peers: &[u64], group: &[u64]) -> u64
     ensures { result ≡ flag (closed pes group.now peers.now) }
 {
     if MOST_PES < pes {
@@ -121,8 +118,7 @@ pub extern "C" fn celltimber_closed(pes: u64, peers: &[u64], group: &[u64]) -> u
 
 // Marks exactly the memory words that a walk of a member below N reads for some address of the DMA class: each other word of `marks` becomes 0. `tables` and
 // `under` are room to work in and become 0. 1, or 0 where N is above its limit or one of the three has not the length of memory; all three are then as they were.
-#[unsafe(no_mangle)]
-pub extern "C" fn celltimber_covers(
+pub fn celltimber_covers(
     pes: u64,
     entries: &[u64],
     memory: &[u64],
@@ -150,8 +146,7 @@ pub extern "C" fn celltimber_covers(
 }
 
 // 1 if word `index` of a table is public or the group's, else 0. N comes first.
-#[unsafe(no_mangle)]
-pub extern "C" fn celltimber_seen(
+pub fn celltimber_seen(
     pes: u64,
     interrupts: &[u64],
     marks: &[u64],

@@ -81,9 +81,13 @@ back_from v k e l b y zero h = refl
 back_from v k e [] b y (suc n) h = absurd (omega arith)
 back_from v k e (q ∷ l) b y (suc n) h =
     let next : length (v ++ encoded q) ≡ suc k * request_words = rw (length-append, length_encoded, e) (omega (arith, suc-mul k request_words)) in
-    rw (append_assoc (encoded q) (words_of l) y)
-    (rw (decoded-encoded v k e q (λ p m. b p (Memᴰ.append_left l m)) (words_of l ++ y), ← append_assoc v (encoded q) (words_of l ++ y))
-    (ap (λ (x : List Request). q ∷ x) (back_from (v ++ encoded q) (suc k) next l (λ p m. b p (Memᴰ.tail m)) y n (le_of_suc-le-suc h))))
+    let whole = v ++ (encoded q ++ (words_of l ++ y)) in
+    let here : decoded_at whole k ≡ q = decoded-encoded v k e q (λ p m. b p (Memᴰ.append_left l m)) (words_of l ++ y) in
+    let rest : requests_from whole (suc k) n ≡ take n l =
+    subst (λ x. requests_from x (suc k) n ≡ take n l) (append_assoc v (encoded q) (words_of l ++ y))
+    (back_from (v ++ encoded q) (suc k) next l (λ p m. b p (Memᴰ.tail m)) y n (le_of_suc-le-suc h)) in
+    subst (λ (x : List ℕ). requests_from (v ++ x) k (suc n) ≡ take (suc n) (q ∷ l)) (sym (append_assoc (encoded q) (words_of l) y))
+    (ap (λ (r : Request). r ∷ requests_from whole (suc k) n) here ∙ ap (λ (r : List Request). q ∷ r) rest)
 
 pub requests-back : (l : List Request) → Brought l → (y : List ℕ) (n : ℕ) → n ≤ length l → requests_from (words_of l ++ y) 0 n ≡ take n l
 requests-back l b y n h = back_from [] 0 refl l b y n h

@@ -1,0 +1,13 @@
+-- `dma_pages::page_tables::aligned` meets its contract. Assumes nothing.
+use Rattle.dma_pages.proofs.ShapeLaws as laws
+use borrow.Author.Rules.{rules}
+use Rattle.dma_pages.proofs.page_tables.aligned.Goals as goal
+
+pub returns-then-bits-gt-MOST_BITS : goal.returns-then-bits-gt-MOST_BITS
+returns-then-bits-gt-MOST_BITS c = search laws.at_zero
+
+pub overflow_sub-result : goal.overflow_sub-result
+overflow_sub-result c = search laws.table-bytes
+
+pub returns : goal.returns
+returns c = search laws.multiple

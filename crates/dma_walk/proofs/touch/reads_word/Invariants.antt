@@ -1,0 +1,17 @@
+use mathlib.Core.Path.{◌≡◌}
+use mathlib.Core.Bool.{true}
+use Prim.Native.Nat.{◌+◌, ◌*◌, ◌≤◌}
+use borrow.Author.Rules.{rules}
+use Rattle.kinds.specs.Has.{has}
+use Rattle.profile.specs.Entry.{aligned, offset_bits, most_table_code, code_bits, most_levels}
+use Rattle.profile.specs.Walk.{walk_from}
+use Rattle.dma_walk.proofs.LoopLaws as loop
+use Rattle.dma_walk.proofs.TouchLaws as laws
+use Rattle.dma_walk.proofs.touch.reads_word.Given as goal
+
+abbrev pub invariant-loop-below : goal.invariant-loop-below
+invariant-loop-below l = (l.below ≤ most_levels) × (l.bits ≤ most_table_code + code_bits) × (l.bits * l.below ≤ offset_bits) × (aligned l.bits l.base ≡ true) ×
+    (has l.word (walk_from l.memory l.initial.below l.bits l.initial.base l.page).reads ≡ has l.word (walk_from l.memory l.below l.bits l.base l.page).reads)
+
+abbrev pub decreases-loop-below : goal.decreases-loop-below
+decreases-loop-below l = l.below
