@@ -1,0 +1,17 @@
+use Rattle.cache_sweeps.proofs.SweepLaws as laws
+use mathlib.Core.Path.{◌≡◌, refl}
+use Prim.Native.Nat.{◌+◌, ◌-◌, ◌*◌, ◌≤◌}
+use native.Mathlib.Omega.{arith}
+use lib.ListN.{length}
+use borrow.Author.Rules.{rules}
+use Rattle.kinds.specs.Turns.{turns}
+use Rattle.cache.specs.Slots.{slot_words}
+use Rattle.cache_sweeps.specs.Drops.{tests}
+use Rattle.cache_sweeps.specs.Turn.{turned}
+use Rattle.cache_sweeps.proofs.sweep.Given as goal
+
+abbrev pub invariant-loop-k : goal.invariant-loop-k
+invariant-loop-k l = (l.k * slot_words ≤ length l.cache + 3) × (length l.cache ≡ length l.initial.cache) × (l.cache ≡ turns (turned (tests l.pes l.entries l.memory l.drops)) l.initial.cache l.k)
+
+abbrev pub decreases-loop-k : goal.decreases-loop-k
+decreases-loop-k l = length l.cache + slot_words - l.k * slot_words

@@ -1,0 +1,24 @@
+-- `dma_walk::touch::reads_word` meets its contract. The invariant: the walk from the top reads the word exactly where the walk of the levels that are
+-- left does. The measure is the number of levels that are left. Assumes nothing.
+use mathlib.Core.Path.{◌≡◌}
+use mathlib.Core.Bool.{true}
+use Prim.Native.Nat.{◌+◌, ◌*◌, ◌≤◌}
+use borrow.Author.Rules.{rules}
+use Rattle.kinds.specs.Has.{has}
+use Rattle.profile.specs.Entry.{aligned, offset_bits, most_table_code, code_bits, most_levels}
+use Rattle.profile.specs.Walk.{walk_from}
+use Rattle.dma_walk.proofs.LoopLaws as loop
+use Rattle.dma_walk.proofs.TouchLaws as laws
+use Rattle.dma_walk.proofs.touch.reads_word.Goals as goal
+
+pub returns-then-at-word : goal.returns-then-at-word
+returns-then-at-word c = search laws.found_here
+
+pub loop-below-preserved : goal.loop-below-preserved
+loop-below-preserved c = search (rules, loop.shift_less, laws.lower-aligned, laws.lower)
+
+pub returns-in-End : goal.returns-in-End
+returns-in-End c = search laws.ended
+
+pub returns : goal.returns
+returns c = search laws.done
