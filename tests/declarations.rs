@@ -103,8 +103,8 @@ fn exported(name: &str) -> Functions {
     let mut all = Functions::new();
     for file in fs::read_dir(format!("crates/{name}/src")).into_iter().flatten().flatten() {
         let path = file.path();
-        let found = functions(&read(&path.to_string_lossy()), "#[no_mangle]\npub extern \"C\" fn ");
-        all.extend(found);
+        let start = "#[unsafe(no_mangle)]\npub extern \"C\" fn ";
+        all.extend(functions(&read(&path.to_string_lossy()), start));
     }
     all
 }
@@ -212,21 +212,21 @@ fn defined(run: &Function) -> Numbers {
     let bits = [("MMIO_STOP", 1), ("DMA_STOP", 2), ("FENCE", 1)];
     let mut all = Numbers::from(bits.map(|(name, bit)| (name.to_string(), bit)));
     all.extend(clauses(LAYOUT, "encoded ", "", ""));
-    all.extend(clauses(LAYOUT, "directionNumber ", "", ""));
-    all.extend(clauses(LAYOUT, "partNumber ", "", "_BIT"));
+    all.extend(clauses(LAYOUT, "direction_number ", "", ""));
+    all.extend(clauses(LAYOUT, "part_number ", "", "_BIT"));
     if let Some(number) = all.remove("RECORD_BIT") {
         all.insert("RECORD".to_string(), number);
     }
     // of the bridge with a cache: the kinds that it has beside those, and what an invalidate names
-    all.extend(clauses(OPERATIONS, "encodedOperation ", "", ""));
-    all.extend(clauses(OPERATIONS, "scopeWords ", "SCOPE_", ""));
+    all.extend(clauses(OPERATIONS, "encoded_operation ", "", ""));
+    all.extend(clauses(OPERATIONS, "scope_words ", "SCOPE_", ""));
     all.extend(clauses(ANSWER, "numbered ", "", ""));
-    all.extend(clauses(ANSWER, "reasonNumber ", "REASON_", ""));
+    all.extend(clauses(ANSWER, "reason_number ", "REASON_", ""));
     // the words of an answer, in their order
     let layout = read(LAYOUT);
-    let words = between(&layout, "\nnumberList x = ", "\n").unwrap_or("");
+    let words = between(&layout, "\nnumber_list x = ", "\n").unwrap_or("");
     for (k, word) in words.split(" ∷ ").enumerate() {
-        if let Some(word) = word.strip_prefix("x .") {
+        if let Some(word) = word.strip_prefix("x.") {
             all.insert(format!("AT_{}", upper(word).to_uppercase()), k as u64);
         }
     }
@@ -360,7 +360,7 @@ fn main() {
     }
     let crates = read("crates.txt");
     let mut functions = Functions::new();
-    for name in crates.lines().filter_map(|line| line.split(':').next()) {
+    for name in crates.lines().filter_map(|line| line.split([':', ' ']).next()) {
         functions.extend(exported(name));
     }
     let Some(run) = functions.get("celltimber_run") else {

@@ -6,7 +6,7 @@
 
 use std::collections::HashMap;
 use std::fs;
-use std::path::PathBuf;
+use std::path::{Path, PathBuf};
 use std::rc::Rc;
 
 #[derive(Clone, Debug, PartialEq)]
@@ -48,6 +48,7 @@ struct Module {
     definitions: HashMap<String, Definition>,
 }
 
+/// Modules by their paths: `kinds.specs.Answer`.
 pub struct Modules(HashMap<String, Module>);
 
 #[derive(Clone)]
@@ -130,6 +131,7 @@ impl Record {
 fn tokens(text: &str) -> Vec<Token> {
     let mut found = Vec::new();
     let mut word = String::new();
+    let mut closed = false;
     for c in text.chars().chain([' ']) {
         let mark = "(){};,".contains(c);
         if !mark && !c.is_whitespace() {
@@ -137,27 +139,38 @@ fn tokens(text: &str) -> Vec<Token> {
             continue;
         }
         if !word.is_empty() {
-            found.push(token(&word));
+            found.extend(parts(&word, closed));
             word.clear();
         }
         if mark {
             found.push(Token::Mark(c));
         }
+        closed = c == ')';
     }
     found
 }
 
-fn token(word: &str) -> Token {
+/// A number, or a name with the fields that stand on it: `x.f`. Fields alone stand on the
+/// parenthesis that is closed before them: `(g x).f`.
+fn parts(word: &str, closed: bool) -> Vec<Token> {
     let number = match word.strip_prefix("0x") {
         Some(digits) => u128::from_str_radix(digits, 16),
         None => word.parse(),
     };
-    match (number, word.strip_prefix('.')) {
-        (Ok(n), _) => Token::Number(n),
-        (_, Some(field)) if !field.is_empty() => Token::Field(field.to_string()),
-        // «a» is the name a where the language has that word for itself.
-        _ => Token::Name(word.trim_matches(['«', '»']).to_string()),
+    if let Ok(n) = number {
+        return vec![Token::Number(n)];
     }
+    // A lambda binds `x.`.
+    if word.ends_with('.') {
+        return vec![Token::Name(word.to_string())];
+    }
+    // «a» is the name a where the language has that word for itself.
+    let plain = |part: &str| part.trim_matches(['«', '»']).to_string();
+    let (name, fields) = word.split_once('.').unwrap_or((word, ""));
+    assert!(closed || !name.is_empty(), "a field stands on nothing: {word}");
+    let name = (!name.is_empty()).then(|| Token::Name(plain(name)));
+    let fields = fields.split('.').filter(|field| !field.is_empty());
+    name.into_iter().chain(fields.map(|field| Token::Field(plain(field)))).collect()
 }
 
 struct Reader {
@@ -213,20 +226,25 @@ impl Reader {
     }
 
     fn application(&mut self) -> Term {
-        let function = self.atom().expect("a term is missing");
+        let function = self.projection().expect("a term is missing");
         let mut arguments = Vec::new();
-        while let Some(argument) = self.atom() {
+        while let Some(argument) = self.projection() {
             arguments.push(argument);
         }
-        let mut term = match arguments.is_empty() {
+        match arguments.is_empty() {
             true => function,
             false => Term::Apply(Box::new(function), arguments),
-        };
+        }
+    }
+
+    /// An atom with the fields that stand on it.
+    fn projection(&mut self) -> Option<Term> {
+        let mut term = self.atom()?;
         while let Some(Token::Field(field)) = self.peek().cloned() {
             self.place += 1;
             term = Term::Field(Box::new(term), field);
         }
-        term
+        Some(term)
     }
 
     fn atom(&mut self) -> Option<Term> {
@@ -325,7 +343,7 @@ impl Module {
             let words: Vec<&str> = item.split_whitespace().collect();
             if let Some(path) = item.strip_prefix("use ") {
                 if let Some((path, names)) = path.split_once(".{") {
-                    let from = path.rsplit('.').next().unwrap_or(path);
+                    let from = path.strip_prefix("Rattle.").unwrap_or(path);
                     for name in names.trim_end().trim_end_matches('}').split(", ") {
                         module.imports.insert(name.to_string(), from.to_string());
                     }
@@ -355,12 +373,12 @@ impl Module {
 // ---- Computing ----
 
 impl Modules {
-    /// The modules of these names and those that they import from, where a folder has them, the
-    /// first of the folders first; of one that is neither a root nor wanted, its numbers alone.
-    pub fn read(folders: &[PathBuf], roots: &[&str], wanted: fn(&str) -> bool) -> Modules {
-        let file = |name: &str| {
-            let mut files = folders.iter().map(|folder| folder.join(format!("{name}.antt")));
-            files.find(|file| file.exists())
+    /// The modules of these paths and those that they import from, where the folder of the crates
+    /// has them; of one that is neither a root nor wanted, its numbers alone.
+    pub fn read(crates: &Path, roots: &[&str], wanted: fn(&str) -> bool) -> Modules {
+        let file = |name: &str| -> Option<PathBuf> {
+            let file = crates.join(format!("{}.antt", name.replace('.', "/")));
+            file.exists().then_some(file)
         };
         let mut modules = Modules(HashMap::new());
         let mut open: Vec<String> = roots.iter().map(|name| name.to_string()).collect();

@@ -43,6 +43,12 @@ use std::fs;
 use std::path::Path;
 use std::process::exit;
 
+const CASES: &str = "profile.proofs.Cases";
+const REASONS: &str = "profile.proofs.Reasons";
+const LIMITS: &str = "profile.proofs.LimitRows";
+const ANSWER: &str = "kinds.specs.Answer";
+const NUMBER: &str = "kinds.specs.Number";
+
 const REQUESTERS: &str = "requesters";
 const TRANSLATION: &str = "translation";
 const MEMORY: &str = "memory";
@@ -201,7 +207,7 @@ fn reason_1(case: &Value) -> bool {
 
 /// The paper's numbers of an answer.
 fn numbered(names: &Modules, answer: &Value) -> Value {
-    names.apply(names.value("Answer", "numbered"), answer.clone())
+    names.apply(names.value(ANSWER, "numbered"), answer.clone())
 }
 
 /// Whether the plain bridge does what a row of a request says, where the request has a form there.
@@ -416,14 +422,13 @@ fn formed(out: &mut Output, request: &Value, good: bool) -> Result<(), &'static 
 fn main() {
     let arguments: Vec<String> = env::args().skip(1).collect();
     let [crates, folder] = &arguments[..] else { panic!("usage: rows CRATES FOLDER") };
-    let specs = ["profile", "kinds"].map(|name| Path::new(crates).join(name).join("specs"));
-    let roots = ["Cases", "Reasons", "Limits", "Answer", "Number"];
-    let names =
-        Modules::read(&specs, &roots, |name| name.ends_with("Case") || name.ends_with("Cases"));
+    let tables = [(CASES, "cases"), (REASONS, "reasons"), (LIMITS, "limits")];
+    let roots = [CASES, REASONS, LIMITS, ANSWER, NUMBER];
+    let names = Modules::read(Path::new(crates), &roots, |name| {
+        name.ends_with("Case") || name.ends_with("Cases")
+    });
 
-    let [first, second, limits] =
-        [("Cases", "cases"), ("Reasons", "reasons"), ("Limits", "limits")]
-            .map(|(module, name)| names.value(module, name));
+    let [first, second, limits] = tables.map(|(module, name)| names.value(module, name));
     let requests = || first.list().iter().chain(second.list());
     let (before, after): (Vec<&Value>, Vec<&Value>) = requests().partition(|row| reason_1(row));
 

@@ -3,8 +3,8 @@
 //     isolate GROUP FILE FILE
 //
 // Whom a request belongs to, whether the group is closed, which table words are public or the group's,
-// and the answers come from proved functions. The premises are those of `isolated-run` in
-// crates/isolation_tests/specs/SeenLaws.antt; one that fails is named, and then nothing is compared.
+// and the answers come from proved functions. The premises are those of `isolated_run` in
+// crates/isolation_tests/proofs/SeenLaws.antt; one that fails is named, and then nothing is compared.
 // A replay text has no line for a fatal message or a fence clear, so that nothing is asked of those.
 //
 // Exit 0: all is the same. 1: a premise fails, or an answer or a word left differs. 2: it could not be tried.
