@@ -20,7 +20,6 @@ use Rattle.kinds.specs.Has.{has}
 use Rattle.kinds.proofs.Has.{has_of}
 use Rattle.kinds.specs.Number.{no_word}
 use Rattle.kinds.proofs.Tests.{by_cases, clash, and_left, and_right}
-use Rattle.kinds.specs.Words.{at}
 use Rattle.kinds.proofs.WordsLaws.{at_set}
 use Rattle.kinds.specs.declared.lookup.Found.{Found}
 use Rattle.kinds.specs.declared.lookup.Found.TheVariants.{Frame, Forbidden, Outside}

@@ -36,7 +36,7 @@ use Rattle.edits.proofs.EditsLaws.{bare_place, own-placed, good_agrees, bare-law
 use Rattle.cache.specs.Slots.{cache_words}
 use Rattle.cache.specs.Cache.{looked, filled, Cached, fit, finish_of, cache_by, cached_answer, cached_after, cached_machine}
 use Rattle.cache.proofs.CacheLaws.{Fine, emptied_sound, answers-same, runs}
-use Rattle.cache_claims.specs.Demand.{lent, begun, left, moments, answers, Simulation, CachedIsolation}
+use Rattle.cache_claims.specs.Demand.{lent, begun, left, moments, Simulation, CachedIsolation}
 
 -- ---- where reason 1 holds
 

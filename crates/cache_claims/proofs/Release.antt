@@ -7,9 +7,8 @@ use Rattle.kinds.specs.Checked.{Checked}
 use Rattle.kinds.specs.Tests.{given}
 use Rattle.kinds.proofs.Tests.{by_cases, clash, and_right}
 use Rattle.kinds.specs.Words.{at}
-use Rattle.kinds.specs.declared.answer.Reason.TheVariants.{BadFirmware}
 use Rattle.kinds.specs.declared.lookup.Owner.{Owner}
-use Rattle.kinds.specs.declared.lookup.Owner.TheVariants.{Of, Nobody}
+use Rattle.kinds.specs.declared.lookup.Owner.TheVariants.{Of}
 use Rattle.kinds.specs.declared.number.PeNumber.{PeNumber}
 use Rattle.kinds.specs.declared.outcome.Effect.{Effect}
 use Rattle.kinds.specs.declared.outcome.Effect.TheVariants.{Keep}
@@ -29,11 +28,10 @@ use Rattle.isolation.specs.Machine.{end}
 use Rattle.history.specs.History.{Step, leaves, steps, freezes, freeze_of, clears, any, since, cleared, stop_of, recorded, record_of, record_at, Zeros, unfrozen}
 use Rattle.history.proofs.HistoryLaws.{since_none, none_first, cleared_mmio, only, unfrozen-same, steps-both, end-both, steps_leave}
 use Rattle.history.proofs.Release.{steps-released, sized-long, keeps-unfrozen, keeps-uncleared}
-use Rattle.edits.specs.Edits.{good, checked_by, outcome_by}
+use Rattle.edits.specs.Edits.{good, checked_by}
 use Rattle.cache.specs.Slots.{cache_words}
 use Rattle.cache.specs.Cache.{looked, Cached, fit, finish_of, cached_answer, cached_after}
 use Rattle.cache_claims.proofs.DemandLaws.{stuck}
-
 use Rattle.cache_claims.specs.Release.{CachedReleased, both, cached_history, cached_step, thaw}
 
 -- ---- an operation does its step

@@ -5,39 +5,22 @@
 --     CachedReleased      THE CLAIM, as a type that a promise can cite
 --     cached-released     THE THEOREM
 -- Assumes nothing.
-use Rattle.std.specs.Prelude.{◌≡◌, Bool, true, false, List, [], ◌∷◌, ◌++◌, ℕ, ◌*◌, ◌<◌, ◌≤◌, eqb, length}
-use Rattle.std.proofs.Math.Path.{refl}
-use Rattle.std.proofs.Common.{sym, ap, ◌∙◌, eq-eqb}
-use Rattle.std.proofs.Math.Option.{none}
-use Rattle.kinds.specs.Checked.{Checked}
-use Rattle.kinds.specs.Tests.{given}
-use Rattle.kinds.proofs.Tests.{by_cases, clash, and_right}
+use Rattle.std.specs.Prelude.{◌≡◌, true, List, [], ◌<◌}
 use Rattle.kinds.specs.Words.{at}
 use Rattle.kinds.specs.declared.answer.Reason.TheVariants.{BadFirmware}
-use Rattle.kinds.specs.declared.lookup.Owner.{Owner}
 use Rattle.kinds.specs.declared.lookup.Owner.TheVariants.{Of, Nobody}
 use Rattle.kinds.specs.declared.number.PeNumber.{PeNumber}
-use Rattle.kinds.specs.declared.outcome.Effect.{Effect}
 use Rattle.kinds.specs.declared.outcome.Effect.TheVariants.{Keep}
 use Rattle.kinds.specs.declared.request.Operation.{Operation}
 use Rattle.kinds.specs.declared.request.Operation.TheVariants.{Plain, Edit, Invalidate}
-use Rattle.kinds.specs.declared.request.Part.{Part}
-use Rattle.kinds.specs.declared.request.Part.TheVariants.{Mmio, Dma, Record}
 use Rattle.kinds.specs.declared.request.Request.{Request}
-use Rattle.profile.specs.Agree.{belongs, owned, Same}
-use Rattle.profile.proofs.AgreeLaws.{alike_refl}
-use Rattle.profile.specs.Freeze.{stop_word, reason_word, value_word, failed_word}
+use Rattle.profile.specs.Freeze.{stop_word}
 use Rattle.profile.specs.Owner.{owner}
-use Rattle.profile.proofs.RequestLaws.{sized_agrees, checked_agrees}
-use Rattle.profile.specs.Step.{checked, finish, act_by, whole}
-use Rattle.profile.specs.Tables.{Tables, Live, state_words, lengths, sized}
+use Rattle.profile.specs.Tables.{Tables}
 use Rattle.isolation.specs.Machine.{end}
-use Rattle.history.specs.History.{Step, leaves, steps, freezes, freeze_of, clears, any, since, cleared, stop_of, recorded, record_of, record_at, Zeros, unfrozen}
-use Rattle.history.proofs.HistoryLaws.{since_none, none_first, cleared_mmio, only, unfrozen-same, steps-both, end-both, steps_leave}
-use Rattle.history.proofs.Release.{steps-released, sized-long, keeps-unfrozen, keeps-uncleared}
-use Rattle.edits.specs.Edits.{good, checked_by, outcome_by}
-use Rattle.cache.specs.Slots.{cache_words}
-use Rattle.cache.specs.Cache.{looked, Cached, fit, finish_of, cached_answer, cached_after}
+use Rattle.history.specs.History.{Step, steps, cleared, stop_of, record_of, record_at, Zeros, unfrozen}
+use Rattle.edits.specs.Edits.{outcome_by}
+use Rattle.cache.specs.Cache.{Cached, fit, finish_of, cached_answer, cached_after}
 
 abbrev pub cached_step : Tables → Cached → Operation → Step
 cached_step f x (Plain q) = record { owner = owner f x.bare.live q; effect = (outcome_by (fit f x) (finish_of f x) f x.bare.live q).effect }

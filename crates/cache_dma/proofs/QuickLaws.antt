@@ -1,16 +1,11 @@
 -- Theorems of specs/Quick.antt. Assumes nothing.
-use Rattle.std.specs.Prelude.{◌≡◌, cond, List, ℕ}
-use Rattle.kinds.specs.Checked.{Checked, Ready, Walk}
-use Rattle.kinds.specs.Number.{no_word}
+use Rattle.std.specs.Prelude.{◌≡◌, List, ℕ}
+use Rattle.kinds.specs.Checked.{Walk}
 use Rattle.kinds.proofs.Tests.{by_cases}
-use Rattle.kinds.specs.declared.lookup.Found.TheVariants.{Frame}
 use Rattle.kinds.specs.declared.number.PeNumber.{PeNumber}
 use Rattle.kinds.specs.declared.record.TranslationEntry.{TranslationEntry}
 use Rattle.kinds.specs.declared.request.DmaRequest.{DmaRequest}
-use Rattle.cache.specs.Cache.{word_for, is_hit, found_by, looked}
-use Rattle.cache_dma.specs.declared.Quick.{Quick}
-use Rattle.cache_dma.specs.declared.Quick.TheVariants.{Hit, Miss}
-
+use Rattle.cache.specs.Cache.{is_hit, looked}
 use Rattle.cache_dma.specs.Quick.{in_place, quick_for}
 
 pub looked_quick : (i : ℕ) (c : List ℕ) (p : PeNumber) (e : TranslationEntry) (q : DmaRequest) → in_place (quick_for i c p e q) p (Walk p e q) ≡ looked i c (Walk p e q)

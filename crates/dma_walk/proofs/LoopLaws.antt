@@ -11,7 +11,7 @@ use Rattle.kinds.specs.declared.lookup.Found.{Found}
 use Rattle.kinds.specs.declared.lookup.Found.TheVariants.{Forbidden}
 use Rattle.kinds.specs.declared.number.ByteAddress.{ByteAddress}
 use Rattle.kinds.specs.declared.number.PageNumber.{PageNumber}
-use Rattle.profile.specs.Walk.{place, next_base, turn, walk_from}
+use Rattle.profile.specs.Walk.{place, next_base, walk_from}
 use Rattle.dma_walk.specs.Turn.{stepped, taken, counted}
 use Rattle.dma_walk.proofs.TurnLaws.{step_is, step-base, step-aligned, step_words}
 use Rattle.dma_walk.specs.declared.walk.Next.{Next}

@@ -2,9 +2,8 @@
 --     step_is             THE LAW: the walk of one level more, by what that level comes to
 --     step-base           the base that a level leads to; step-aligned: it is aligned; step_words: a level reads at most one word
 -- Assumes nothing.
-use Rattle.std.specs.Prelude.{◌≡◌, refl, true, not, List, ℕ, zero, suc, ◌≤◌, ◌-◌, ◌%◌, ltb, eqb, length}
+use Rattle.std.specs.Prelude.{◌≡◌, refl, true, not, List, ℕ, zero, suc, ◌≤◌, ◌%◌, ltb, eqb, length}
 use Rattle.std.proofs.Common.{arith}
-use Rattle.kinds.specs.Number.{word_address}
 use Rattle.kinds.proofs.Tests.{by_cases, and_right}
 use Rattle.kinds.specs.Words.{at}
 use Rattle.kinds.specs.declared.lookup.Found.{Found}
@@ -15,7 +14,6 @@ use Rattle.profile.specs.Walk.{place, next_base, leads, turn, walk_from}
 use Rattle.profile.specs.Walk as definition
 use Rattle.dma_walk.specs.Turn.{next, stepped, taken, counted}
 use Rattle.dma_walk.specs.declared.walk.Next.TheVariants.{Table, End}
-use Rattle.dma_walk.specs.declared.walk.Walked.{Walked}
 
 turn_is : (k n j w : ℕ) (r : definition.Walked) → counted (turn k n j w r) ≡ taken (next k n j w) (counted r)
 unfolding turn next

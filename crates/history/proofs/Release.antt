@@ -29,7 +29,6 @@ use Rattle.isolation.specs.View.{Bridge, bridge_lengths}
 use Rattle.history.specs.History.{Step, leaves, steps, step_of, history, freeze_by, freeze_of, freezes, clear_by, clears, any, since, cleared, stop_of, recorded, record_of, record_at, Zeros, unfrozen}
 use Rattle.history.proofs.StepLaws.{Words}
 use Rattle.history.proofs.HistoryLaws.{leaves-words, since_none, none_first, cleared_mmio, cleared-stop, cleared_record, only, unfrozen-same, steps-both, end-both, steps_leave}
-
 use Rattle.history.specs.Release.{Released, StepsReleased}
 
 -- ---- any steps

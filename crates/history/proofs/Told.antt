@@ -1,18 +1,15 @@
 -- Theorems of specs/Told.antt. Assumes nothing.
-use Rattle.std.specs.Prelude.{◌≡◌, Bool, true, false, cond, not, ◌&&◌, ◌||◌, List, [], ◌∷◌, ℕ, ◌%◌, leb, ltb, eqb, length}
+use Rattle.std.specs.Prelude.{◌≡◌, Bool, false, not, ◌&&◌, List, [], ◌∷◌, ℕ, ◌%◌, ltb, eqb, length}
 use Rattle.std.proofs.Math.Path.{refl, sym}
 use Rattle.std.proofs.Common.{ap, ◌∙◌}
 use Rattle.std.proofs.Math.Option.{none}
-use Rattle.kinds.specs.Answer.{reason_number, is_done}
 use Rattle.kinds.specs.Checked.{Checked, Kept}
-use Rattle.kinds.specs.Number.{no_word}
 use Rattle.kinds.specs.Outcome.{refused}
 use Rattle.kinds.proofs.Tests.{cond_cases}
 use Rattle.kinds.specs.Words.{at}
 use Rattle.kinds.specs.declared.answer.Answer.{Answer}
-use Rattle.kinds.specs.declared.answer.Answer.TheVariants.{Pass, Msi, Held, Ones, Drop, Refuse, Done}
 use Rattle.kinds.specs.declared.answer.Reason.{Reason}
-use Rattle.kinds.specs.declared.answer.Reason.TheVariants.{TableLength, BadRequest, ErrorMessage}
+use Rattle.kinds.specs.declared.answer.Reason.TheVariants.{TableLength, BadRequest}
 use Rattle.kinds.specs.declared.lookup.Found.{Found}
 use Rattle.kinds.specs.declared.lookup.Owner.{Owner}
 use Rattle.kinds.specs.declared.lookup.Owner.TheVariants.{Of, Nobody}
@@ -23,7 +20,6 @@ use Rattle.kinds.specs.declared.number.PageSize.{PageSize}
 use Rattle.kinds.specs.declared.number.PeNumber.{PeNumber}
 use Rattle.kinds.specs.declared.outcome.Effect.{Effect}
 use Rattle.kinds.specs.declared.outcome.Effect.TheVariants.{Keep, Freeze, Release, Interrupt, Fence}
-use Rattle.kinds.specs.declared.outcome.Outcome.{Outcome}
 use Rattle.kinds.specs.declared.record.Interrupt as interrupts
 use Rattle.kinds.specs.declared.record.Sizes.{Sizes}
 use Rattle.kinds.specs.declared.record.TranslationEntry.{TranslationEntry}
@@ -50,7 +46,6 @@ use Rattle.isolation.specs.View.{Bridge}
 use Rattle.history.proofs.HistoryLaws.{any-since, first-since}
 use Rattle.history.proofs.Release.{keeps-unfrozen, keeps-uncleared}
 use Rattle.history.specs.History.{Step, steps, step_of, history, freeze_by, freeze_of, freezes, clear_by, clears, since, first, frozen_since, stop_of, record_of}
-
 use Rattle.history.specs.Told.{Fits, Freezing, Idle, Spares, freezing, lasting, public_owner, told_dma, told_effect, told_history, told_step}
 
 -- ---- refusals that freeze nobody

@@ -6,34 +6,20 @@
 --     history-both, left_both     lists one after another are one list
 --     released-after      after the release the words that a next request leaves the PE are those too that it would leave if no PE had been frozen
 -- Assumes nothing.
-use Rattle.std.specs.Prelude.{◌≡◌, refl, Bool, true, false, List, [], ◌∷◌, ◌++◌, ℕ, ◌*◌, ◌<◌, ◌≤◌, length}
-use Rattle.std.proofs.Common.{sym, ap, ◌∙◌, arith, eqb-true, eq-eqb}
-use Rattle.std.proofs.Math.Option.{Option, none, some}
-use Rattle.kinds.specs.Tests.{given}
-use Rattle.kinds.proofs.Tests.{by_cases, clash, all_true}
+use Rattle.std.specs.Prelude.{◌≡◌, true, List, ◌++◌, ◌*◌, ◌<◌, ◌≤◌, length}
+use Rattle.std.proofs.Math.Option.{none}
 use Rattle.kinds.specs.Words.{at}
-use Rattle.kinds.specs.declared.lookup.Owner.{Owner}
-use Rattle.kinds.specs.declared.lookup.Owner.TheVariants.{Of, Nobody}
+use Rattle.kinds.specs.declared.lookup.Owner.TheVariants.{Of}
 use Rattle.kinds.specs.declared.number.PeNumber.{PeNumber}
-use Rattle.kinds.specs.declared.outcome.Effect.TheVariants.{Keep}
-use Rattle.kinds.specs.declared.outcome.ErrorRecord.{ErrorRecord}
-use Rattle.kinds.specs.declared.outcome.Outcome.{Outcome}
-use Rattle.kinds.specs.declared.request.Part.{Part}
-use Rattle.kinds.specs.declared.request.Part.TheVariants.{Mmio, Dma, Record}
 use Rattle.kinds.specs.declared.request.Request.{Request}
-use Rattle.profile.specs.Tables.{Tables, Live, state_words, state_length, sized, limits, dma_lengths, other_lengths}
-use Rattle.profile.specs.Freeze.{stop_word, reason_word, value_word, failed_word}
+use Rattle.profile.specs.Tables.{Tables, Live, state_words}
+use Rattle.profile.specs.Freeze.{stop_word}
 use Rattle.profile.specs.Owner.{owner}
-use Rattle.profile.specs.Step.{answered, after}
-use Rattle.profile.specs.Agree.{belongs, owned, Same}
-use Rattle.profile.proofs.AgreeLaws.{alike_refl, held_refl}
-use Rattle.profile.proofs.AnswersLaws.{unsized_decided, unsized_keeps}
-use Rattle.profile.proofs.RequestLaws.{answered_agrees, after_agrees}
+use Rattle.profile.specs.Step.{answered}
 use Rattle.isolation.proofs.Corollaries.{ran}
 use Rattle.isolation.specs.Isolation.{left}
-use Rattle.isolation.specs.Machine.{end}
-use Rattle.isolation.specs.View.{Bridge, bridge_lengths}
-use Rattle.history.specs.History.{Step, leaves, steps, step_of, history, freeze_by, freeze_of, freezes, clear_by, clears, any, since, cleared, stop_of, recorded, record_of, record_at, Zeros, unfrozen}
+use Rattle.isolation.specs.View.{Bridge}
+use Rattle.history.specs.History.{Step, leaves, history, cleared, stop_of, recorded, record_of, record_at, Zeros, unfrozen}
 
 pub record StepsReleased : Type 0 where
   -- any steps from a state of zeros that has the words of all PEs, and a PE

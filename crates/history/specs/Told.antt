@@ -7,55 +7,28 @@
 --     told-freeze, told-clear     it is a freeze of the same PEs with the same records, and a clear of the same parts
 --     told-stop, told-record      so stop word and record by the history are those that are told from the answers
 -- Assumes nothing.
-use Rattle.std.specs.Prelude.{◌≡◌, Bool, true, false, cond, not, ◌&&◌, ◌||◌, List, [], ◌∷◌, ℕ, ◌%◌, leb, ltb, eqb, length}
-use Rattle.std.proofs.Math.Path.{refl, sym}
-use Rattle.std.proofs.Common.{ap, ◌∙◌}
-use Rattle.std.proofs.Math.Option.{none}
+use Rattle.std.specs.Prelude.{◌≡◌, Bool, true, false, cond, ◌&&◌, ◌||◌, List, [], leb, eqb}
 use Rattle.kinds.specs.Answer.{reason_number, is_done}
-use Rattle.kinds.specs.Checked.{Checked, Kept}
 use Rattle.kinds.specs.Number.{no_word}
-use Rattle.kinds.specs.Outcome.{refused}
-use Rattle.kinds.proofs.Tests.{cond_cases}
-use Rattle.kinds.specs.Words.{at}
 use Rattle.kinds.specs.declared.answer.Answer.{Answer}
 use Rattle.kinds.specs.declared.answer.Answer.TheVariants.{Pass, Msi, Held, Ones, Drop, Refuse, Done}
 use Rattle.kinds.specs.declared.answer.Reason.{Reason}
-use Rattle.kinds.specs.declared.answer.Reason.TheVariants.{TableLength, BadRequest, ErrorMessage}
-use Rattle.kinds.specs.declared.lookup.Found.{Found}
+use Rattle.kinds.specs.declared.answer.Reason.TheVariants.{ErrorMessage}
 use Rattle.kinds.specs.declared.lookup.Owner.{Owner}
 use Rattle.kinds.specs.declared.lookup.Owner.TheVariants.{Of, Nobody}
 use Rattle.kinds.specs.declared.lookup.Translated.{Translated}
 use Rattle.kinds.specs.declared.lookup.Translated.TheVariants.{To, Fault}
 use Rattle.kinds.specs.declared.number.ByteAddress.{ByteAddress}
-use Rattle.kinds.specs.declared.number.PageSize.{PageSize}
-use Rattle.kinds.specs.declared.number.PeNumber.{PeNumber}
 use Rattle.kinds.specs.declared.outcome.Effect.{Effect}
 use Rattle.kinds.specs.declared.outcome.Effect.TheVariants.{Keep, Freeze, Release, Interrupt, Fence}
 use Rattle.kinds.specs.declared.outcome.Outcome.{Outcome}
-use Rattle.kinds.specs.declared.record.Interrupt as interrupts
-use Rattle.kinds.specs.declared.record.Sizes.{Sizes}
-use Rattle.kinds.specs.declared.record.TranslationEntry.{TranslationEntry}
-use Rattle.kinds.specs.declared.request.AddressClass.{AddressClass}
-use Rattle.kinds.specs.declared.request.AddressClass.TheVariants as class
-use Rattle.kinds.specs.declared.request.Direction.{Direction}
-use Rattle.kinds.specs.declared.request.DmaRequest.{DmaRequest}
-use Rattle.kinds.specs.declared.request.Part.{Part}
-use Rattle.kinds.specs.declared.request.Part.TheVariants as part
 use Rattle.kinds.specs.declared.request.Request.{Request}
 use Rattle.kinds.specs.declared.request.Request.TheVariants.{Dma, Load, Store, Error, Clear, End, Priority, Fatal, FenceClear, Unnamed}
-use Rattle.profile.specs.Tables.{Tables, Live, lengths, sized}
-use Rattle.profile.specs.Freeze.{stop_word, dma_stopped}
-use Rattle.profile.specs.Fence.{fence_word, barred, shut}
-use Rattle.profile.specs.Entry.{class_of, half, offset, entry_in, page_size, page_of, walks, unwalked}
-use Rattle.profile.specs.Walk.{landed, walked_page, by_pages}
-use Rattle.profile.proofs.WalkLaws.{landed-cases, unwalked-cases}
-use Rattle.profile.specs.Msi.{holding, interrupt_in, interrupt, ranged, presents, announced, delivered, msi}
-use Rattle.profile.specs.Firmware.{ends, prioritized}
-use Rattle.profile.specs.Owner.{owner_in, owner}
-use Rattle.profile.proofs.OwnerLaws.{owner_in-cases}
-use Rattle.profile.specs.Step.{formed, installed_to, last_test, outcome_of, by_entry, served, dma_asked, unowned, ask, asked, checked, finish, decided, answered, after}
+use Rattle.profile.specs.Tables.{Tables}
+use Rattle.profile.specs.Owner.{owner_in}
+use Rattle.profile.specs.Step.{answered, after}
 use Rattle.isolation.specs.View.{Bridge}
-use Rattle.history.specs.History.{Step, steps, step_of, history, freeze_by, freeze_of, freezes, clear_by, clears, since, first, frozen_since, stop_of, record_of}
+use Rattle.history.specs.History.{Step, steps}
 
 abbrev pub freezing : Reason → Bool
 freezing r = leb 5 (reason_number r) && leb (reason_number r) 9 || eqb (reason_number r) 15 || eqb (reason_number r) 17

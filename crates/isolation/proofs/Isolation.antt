@@ -12,7 +12,7 @@ use Rattle.kinds.specs.declared.record.Sizes.{Sizes}
 use Rattle.kinds.specs.declared.request.Request.{Request}
 use Rattle.profile.specs.Tables.{Tables, Live}
 use Rattle.profile.specs.Fence.{fence_word, Event, fence_bit}
-use Rattle.profile.specs.Step.{decided, answered, after}
+use Rattle.profile.specs.Step.{decided, after}
 use Rattle.profile.specs.Owner.{owner}
 use Rattle.profile.specs.Agree.{owned, belongs, obeyed, Closed, Same, Alike, Held}
 use Rattle.profile.proofs.AgreeLaws.{same_sym, same_trans}
@@ -20,13 +20,12 @@ use Rattle.profile.proofs.ActLaws.{whole_agrees}
 use Rattle.profile.proofs.EventLaws.{free-calm, obeyed-does, obeyed-keeps}
 use Rattle.profile.proofs.OwnerLaws.{owner-keeps}
 use Rattle.profile.proofs.RequestLaws.{vector_agrees, answered_agrees, after_agrees, after_unseen}
-use Rattle.isolation.specs.Machine.{Machine, Laws, seen, end, chosen}
-use Rattle.isolation.specs.Labels.{labels, labels_by, SameLabel}
+use Rattle.isolation.specs.Machine.{Machine, Laws, chosen}
+use Rattle.isolation.specs.Labels.{labels_by, SameLabel}
 use Rattle.isolation.proofs.Labels.{watched, labels-start, unwound-labels}
-use Rattle.isolation.specs.View.{Bridge, Written, View, Agreed}
+use Rattle.isolation.specs.View.{Bridge, Agreed}
 use Rattle.isolation.proofs.ViewLaws.{agreed, written}
-
-use Rattle.isolation.specs.Isolation.{Isolation, Other, Own, Place, answers, fence, left, machine, other, own, owns, place, places_in}
+use Rattle.isolation.specs.Isolation.{Isolation, Other, Own, Place, answers, left, machine, other, own, owns, place, places_in}
 
 -- ---- what no request changes
 

@@ -7,7 +7,6 @@ use Rattle.kinds.specs.Tests.{given}
 use Rattle.kinds.proofs.Tests.{by_cases, option_cases}
 use Rattle.isolation.specs.Machine.{Machine, Laws, Pairs, OfMet, end, seen, met, chosen}
 use Rattle.isolation.proofs.Unwind.{unwound}
-
 use Rattle.isolation.specs.Labels.{SameLabel, joined, labels, labels_by, somes}
 
 labels_by-chosen : {Q X : Type 0} (label : Q → Option X) (l : List Q) → labels_by label (chosen (λ q. given (label q)) l) ≡ labels_by label l

@@ -1,11 +1,8 @@
 -- Theorems of specs/Unwind.antt. Assumes nothing.
 use Rattle.std.specs.Prelude.{◌≡◌, refl, true, List, [], ◌∷◌}
-use Rattle.std.proofs.Common.{sym, ◌∙◌}
 use Rattle.kinds.proofs.Tests.{by_cases}
 use Rattle.isolation.specs.Machine.{Machine, Align, Laws, Runs, Pairs, OfMet, end, seen, met, replies}
 use Rattle.isolation.specs.Machine.Align.{done, left, right, both}
-
-use Rattle.isolation.specs.Unwind.{Lifted, lifted}
 
 module _ {S Q A : Type 0} where
   pub aligned : {m n : Machine S Q A} {Match : S → S → Q → Q → Type 0} {R : S → S → Type 0} → Laws m n Match R

@@ -14,30 +14,19 @@
 --     laws                the laws of one request are laws of two machines
 --     run-agrees          two lists, in the relations of those laws
 -- Assumes nothing.
-use Rattle.std.specs.Prelude.{◌≡◌, refl, Bool, true, false, cond, List, [], ◌∷◌, ℕ}
-use Rattle.std.proofs.Common.{sym, ap, ap₂, subst, ◌∙◌, arith}
+use Rattle.std.specs.Prelude.{◌≡◌, Bool, cond, List, [], ◌∷◌, ℕ}
 use Rattle.std.proofs.Math.Option.{Option, none, some}
-use Rattle.kinds.specs.Tests.{given}
-use Rattle.kinds.proofs.Tests.{by_cases, clash, option_cases, none-some}
 use Rattle.kinds.specs.Words.{at}
 use Rattle.kinds.specs.declared.answer.Answer.{Answer}
 use Rattle.kinds.specs.declared.number.PeNumber.{PeNumber}
-use Rattle.kinds.specs.declared.outcome.Effect.TheVariants.{Fence}
-use Rattle.kinds.specs.declared.record.Sizes.{Sizes}
 use Rattle.kinds.specs.declared.request.Request.{Request}
 use Rattle.profile.specs.Tables.{Tables, Live}
-use Rattle.profile.specs.Fence.{fence_word, Event, fence_bit}
-use Rattle.profile.specs.Step.{decided, answered, after}
-use Rattle.profile.specs.Owner.{owner}
-use Rattle.profile.specs.Agree.{owned, belongs, obeyed, Closed, Same, Alike, Held}
-use Rattle.profile.proofs.AgreeLaws.{same_sym, same_trans}
-use Rattle.profile.proofs.ActLaws.{whole_agrees}
-use Rattle.profile.proofs.EventLaws.{free-calm, obeyed-does, obeyed-keeps}
-use Rattle.profile.proofs.OwnerLaws.{owner-keeps}
-use Rattle.profile.proofs.RequestLaws.{vector_agrees, answered_agrees, after_agrees, after_unseen}
-use Rattle.isolation.specs.Machine.{Machine, Laws, seen, end, chosen}
-use Rattle.isolation.specs.Labels.{labels, labels_by, SameLabel}
-use Rattle.isolation.specs.View.{Bridge, Written, View, Agreed}
+use Rattle.profile.specs.Fence.{fence_word, Event}
+use Rattle.profile.specs.Step.{answered, after}
+use Rattle.profile.specs.Agree.{belongs, obeyed, Closed}
+use Rattle.isolation.specs.Machine.{Machine, seen, end, chosen}
+use Rattle.isolation.specs.Labels.{labels}
+use Rattle.isolation.specs.View.{Bridge, Written, View}
 
 abbrev pub machine : (PeNumber → Bool) → Tables → List ℕ → Machine Live Request Answer
 machine G f m = record { next = after f m; answer = answered f m; own = belongs G f }

@@ -9,13 +9,8 @@
 --     labelsBy label l    the labels of a list by one state; labels-start: where no request changes a label, these are the labels; labels-chosen:
 --                         and those of the requests with a label alone
 -- Assumes nothing.
-use Rattle.std.specs.Prelude.{◌≡◌, refl, true, cond, List, [], ◌∷◌, ℕ}
-use Rattle.std.proofs.Common.{sym, ap, ◌∙◌, arith}
-use Rattle.std.proofs.Math.Path.{fun_ext}
+use Rattle.std.specs.Prelude.{◌≡◌, List, [], ◌∷◌}
 use Rattle.std.proofs.Math.Option.{Option, none, some}
-use Rattle.kinds.specs.Tests.{given}
-use Rattle.kinds.proofs.Tests.{by_cases, option_cases}
-use Rattle.isolation.specs.Machine.{Machine, Laws, Pairs, OfMet, end, seen, met, chosen}
 
 module _ {X : Type 0} where
   -- a list with one more in front, if there is one

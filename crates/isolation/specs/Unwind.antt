@@ -6,11 +6,8 @@
 --     run-same            a machine that runs as another one does: every list is answered the same and leaves the same
 --     lifted              laws of two machines are laws of two that run as they do
 -- Assumes nothing.
-use Rattle.std.specs.Prelude.{◌≡◌, refl, true, List, [], ◌∷◌}
 use Rattle.std.proofs.Common.{sym, ◌∙◌}
-use Rattle.kinds.proofs.Tests.{by_cases}
-use Rattle.isolation.specs.Machine.{Machine, Align, Laws, Runs, Pairs, OfMet, end, seen, met, replies}
-use Rattle.isolation.specs.Machine.Align.{done, left, right, both}
+use Rattle.isolation.specs.Machine.{Machine, Laws, Runs}
 
 module _ {X S Q A : Type 0} {c d : Machine X Q A} {m n : Machine S Q A} {h : X → S} {I J : X → Type 0} {Match : S → S → Q → Q → Type 0}
     {R : S → S → Type 0} (v : Runs c m h I) (w : Runs d n h J) (laws : Laws m n Match R) where

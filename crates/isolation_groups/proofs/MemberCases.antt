@@ -3,7 +3,7 @@
 --     members-hold        these bits are the members 0, 63, 64 and 255; the numbers beside them are none
 --     full-hold           255 is a member where every bit is set, 256 is none
 -- Assumes nothing.
-use Rattle.std.specs.Prelude.{◌≡◌, refl, Bool, true, false, List, [], ◌∷◌, map, ℕ, ◌+◌, ◌-◌, ◌^◌, replicate}
+use Rattle.std.specs.Prelude.{◌≡◌, refl, true, false, List, [], ◌∷◌, map, ℕ, ◌+◌, ◌-◌, ◌^◌, replicate}
 use Rattle.isolation_groups.specs.Member.{member_of}
 
 abbrev four : List ℕ

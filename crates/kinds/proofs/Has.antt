@@ -1,9 +1,8 @@
 -- Theorems of specs/Has.antt. Assumes nothing.
-use Rattle.std.specs.Prelude.{◌≡◌, refl, Bool, true, false, ◌||◌, ℕ, eqb}
+use Rattle.std.specs.Prelude.{◌≡◌, refl, true, ℕ, eqb}
 use mathlib.Core.List.{List, [], ◌∷◌, Memᴰ}
 use Rattle.std.proofs.Common.{eqb-true, eq-eqb}
 use Rattle.kinds.proofs.Tests.{clash, or_cases, or_left, or_right}
-
 use Rattle.kinds.specs.Has.{has}
 
 pub has_of : {k : ℕ} {l : List ℕ} → Memᴰ k l → has k l ≡ true

@@ -15,7 +15,6 @@ use Rattle.std.proofs.Math.Pow.{pow-lt, high, low}
 use Rattle.std.proofs.lemmas.Nat.{mod-pow-add, shl-shr, and_mask, or_shifted}
 use Rattle.std.specs.Int.Bits.{bit_and, bit_or}
 
-
 pub one_shl : (k : ℕ) → k < 64 → (1 * 2 ^ k) % 2 ^ 64 ≡ 2 ^ k
 one_shl k h = rw (one-mul (2 ^ k)) (mod-eq_of_lt (pow-lt h))
 

@@ -7,10 +7,8 @@
 --     all l               every test of a list holds; all_true: so test k does; all_append: of two lists together
 --     tests               the rule set that turns a fact about numbers into the value of its test
 -- Assumes nothing.
-use Rattle.std.specs.Prelude.{◌≡◌, refl, Bool, true, false, cond, not, ◌&&◌, ◌||◌, List, [], ◌∷◌, ◌++◌, ℕ, zero, suc, get_or}
-use Rattle.std.proofs.Common.{sym, arith, lt-ltb, le-ltb, le-leb, eq-eqb, ne_eqb}
+use Rattle.std.specs.Prelude.{Bool, true, false, ◌&&◌, List, [], ◌∷◌}
 use Rattle.std.proofs.Math.Option.{Option, none, some}
-use Rattle.std.proofs.lemmas.Bool.{lt-leb}
 
 abbrev pub given : {X : Type 0} → Option X → Bool
 given none = false

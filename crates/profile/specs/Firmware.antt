@@ -3,7 +3,7 @@
 --     ends i e            the end of an interrupt
 --     prioritized i n e   its priority set to n, written first; from 255 to another with Q set, Q is cleared and an MSI is taken as arrived
 -- Assumes nothing.
-use Rattle.std.specs.Prelude.{cond, not, ◌&&◌, ℕ, ◌*◌, ◌/◌, ◌%◌, ltb, eqb, set}
+use Rattle.std.specs.Prelude.{cond, not, ◌&&◌, ℕ, ◌*◌, ◌/◌, ◌%◌, ltb, eqb}
 use Rattle.kinds.specs.Outcome.{refused, done}
 use Rattle.kinds.specs.declared.answer.Answer.TheVariants.{Msi}
 use Rattle.kinds.specs.declared.answer.Reason.TheVariants.{BadFirmware}

@@ -7,7 +7,7 @@ use Rattle.replay_text.specs.Bytes.{bytes}
 use Rattle.replay_text.specs.Field.{is}
 use Rattle.replay_text.specs.declared.Line.{Line}
 use Rattle.replay_text.specs.declared.Line.TheVariants.{Bad}
-use Rattle.replay_text.specs.Line.{Form, field, forms, formed}
+use Rattle.replay_text.specs.Line.{Form, formed}
 use Rattle.replay_text.specs.Word.{find}
 
 -- a line's first field, looked for in a list of forms

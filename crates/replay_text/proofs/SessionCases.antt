@@ -2,7 +2,7 @@
 --     only-hold           request lines and bad lines count, size and set lines do not
 --     requests-hold       the requests of a list, in order
 -- Assumes nothing.
-use Rattle.std.specs.Prelude.{◌≡◌, refl, Bool, true, false, List, [], ◌∷◌, map}
+use Rattle.std.specs.Prelude.{◌≡◌, refl, true, false, List, [], ◌∷◌, map}
 use Rattle.kinds.specs.declared.request.Request.TheVariants.{Error, End}
 use Rattle.replay_text.specs.declared.Line.{Line}
 use Rattle.replay_text.specs.declared.Line.TheVariants.{Size, Set, Request, Bad}

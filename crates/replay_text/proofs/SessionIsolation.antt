@@ -1,29 +1,20 @@
 -- Theorems of specs/SessionIsolation.antt. Assumes nothing.
-use Rattle.std.specs.Prelude.{◌≡◌, Bool, true, false, cond, ℕ}
+use Rattle.std.specs.Prelude.{◌≡◌, Bool, true, ℕ}
 use Rattle.std.proofs.Math.Path.{refl}
 use Rattle.std.proofs.Common.{sym, ap, ◌∙◌}
 use mathlib.Core.List.{List, [], ◌∷◌, map}
-use Rattle.kinds.specs.Answer.{numbered}
 use Rattle.kinds.proofs.Tests.{by_cases, clash}
-use Rattle.kinds.specs.Words.{at}
-use Rattle.kinds.specs.declared.answer.Answer.{Answer}
 use Rattle.kinds.specs.declared.number.PeNumber.{PeNumber}
-use Rattle.kinds.specs.declared.request.Request.{Request}
-use Rattle.isolation.specs.Isolation.{machine, places_in}
+use Rattle.isolation.specs.Isolation.{machine}
 use Rattle.isolation.proofs.Isolation.{isolation}
 use Rattle.isolation.specs.Machine.{seen, end}
-use Rattle.isolation.specs.View.{Bridge, Written, View}
 use Rattle.replay_text.specs.declared.Line.{Line}
 use Rattle.replay_text.specs.declared.Line.TheVariants.{Size, Set, Request as RequestLine, Bad}
-use Rattle.profile.specs.Agree.{Closed, belongs}
-use Rattle.profile.specs.Fence.{fence_word}
+use Rattle.profile.specs.Agree.{belongs}
 use Rattle.profile.specs.Step.{after}
 use Rattle.profile.specs.Tables.{Tables, Live}
 use Rattle.replay_text.specs.SessionTables.{Session}
-use Rattle.replay_text.specs.declared.Reply.{Reply}
-use Rattle.replay_text.specs.declared.Reply.TheVariants.{Says}
 use Rattle.replay_text.specs.Session.{reply_to, after_line}
-
 use Rattle.replay_text.specs.SessionIsolation.{SessionIsolation, bridge_in, lines_left, own_replies, requests_in, requests_only, saying}
 
 module _ (G : PeNumber → Bool) (f : Tables) (m : List ℕ) where

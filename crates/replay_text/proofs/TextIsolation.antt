@@ -7,13 +7,11 @@ use Rattle.profile.specs.Fence.{fence_word}
 use Rattle.isolation.proofs.Corollaries.{quiet, quiet_same}
 use Rattle.isolation.specs.Isolation.{own}
 use Rattle.isolation.specs.View.{Written, View}
-use Rattle.replay_text.specs.declared.Line.{Line}
 use Rattle.replay_text.proofs.EveryLine.{sized-cases, every_line}
 use Rattle.replay_text.specs.Line.{line_of}
 use Rattle.replay_text.specs.SessionIsolation.{bridge_in, requests_only, requests_in, own_replies, lines_left}
 use Rattle.replay_text.proofs.SessionIsolation.{session-isolation}
 use Rattle.replay_text.specs.SessionTables.{Session}
-
 use Rattle.replay_text.specs.TextIsolation.{Quiet}
 
 line_quiet : (x : List ℕ) → Quiet (line_of x)

@@ -3,7 +3,7 @@
 --     length-encoded      their number; length-wordsOf: of a list of requests
 --     requests-back       the first n requests of the words of a list, whatever follows, are the first n of the list
 -- Assumes nothing.
-use Rattle.std.specs.Prelude.{◌≡◌, refl, List, [], ◌∷◌, ◌++◌, ℕ, zero, suc, ◌+◌, ◌*◌, ◌^◌, ◌<◌, ◌≤◌, length, take}
+use Rattle.std.specs.Prelude.{◌≡◌, refl, List, [], ◌∷◌, ◌++◌, ℕ, zero, suc, ◌*◌, ◌^◌, ◌<◌, ◌≤◌, length, take}
 use Rattle.std.proofs.Common.{ap, sym, subst, ◌∙◌, append_assoc, add-zero, suc-mul, le_of_suc-le-suc, arith, lt-ltb, length-append, get_or-append-add}
 use mathlib.Core.List.Memᴰ
 use Rattle.kinds.specs.declared.request.Direction.{Direction}

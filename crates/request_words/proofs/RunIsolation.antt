@@ -1,28 +1,25 @@
 -- Theorems of specs/RunIsolation.antt. Assumes nothing.
-use Rattle.std.specs.Prelude.{◌≡◌, Bool, cond, List, [], ◌∷◌, ◌++◌, map, drop}
+use Rattle.std.specs.Prelude.{◌≡◌, Bool, List, [], ◌++◌, map, drop}
 use Rattle.std.proofs.Math.Path.{refl}
 use Rattle.std.proofs.Common.{sym, ap, ◌∙◌, append_assoc, arith, length-append}
 use Prim.Native.Nat.{ℕ, zero, suc, ◌*◌, ◌≤◌}
 use Rattle.std.proofs.Math.Nat.{suc-mul}
 use Rattle.std.proofs.Math.ListN.{length}
 use Rattle.kinds.proofs.Tests.{by_cases}
-use Rattle.kinds.specs.Words.{at}
 use Rattle.kinds.specs.declared.number.PeNumber.{PeNumber}
 use Rattle.kinds.specs.declared.request.Request.{Request}
-use Rattle.isolation.specs.Isolation.{machine, Place, places_in}
+use Rattle.isolation.specs.Isolation.{machine}
 use Rattle.isolation.proofs.Isolation.{isolation, belongs-keeps}
 use Rattle.isolation.specs.Machine.{seen}
-use Rattle.isolation.specs.View.{Bridge, Written, View}
-use Rattle.profile.specs.Agree.{belongs, Closed}
-use Rattle.profile.specs.Fence.{fence_word}
+use Rattle.isolation.specs.View.{Bridge}
+use Rattle.profile.specs.Agree.{belongs}
 use Rattle.profile.specs.Step.{answered, after}
 use Rattle.profile.specs.Tables.{Live}
 use Rattle.request_words.specs.Layout.{answer_words, decoded_at, requests_from, answer_list, answers_of, words_at}
 use Rattle.request_words.proofs.LayoutLaws.{words-at}
 use Rattle.request_words.specs.Run.{served, ran_to, answers_to}
 use Rattle.request_words.proofs.RunLaws.{room, ran_to-live, ran_to-answers}
-
-use Rattle.request_words.specs.RunIsolation.{RunIsolation, own_answers, own_answers_from, run_places}
+use Rattle.request_words.specs.RunIsolation.{RunIsolation, own_answers, own_answers_from}
 
 -- ---- the words of the own answers are the own answers in words
 

@@ -4,14 +4,11 @@ use Rattle.std.proofs.Common.{sym, ◌∙◌, arith, length-append, length-take-
 use Rattle.std.proofs.Math.Nat.{min-eq_left, min-eq_right}
 use Rattle.std.proofs.Math.Seq.{take-length}
 use Rattle.kinds.specs.declared.request.Request.{Request}
-use Rattle.isolation.specs.Machine.{end}
-use Rattle.profile.specs.Step.{after}
 use Rattle.profile.specs.Tables.{Tables, Live}
 use Rattle.request_words.proofs.EncodedLaws.{length_words_of, requests-back}
-use Rattle.request_words.specs.Layout.{request_words, answer_words, words_of, Brought, requests_from, answers_of, over}
-use Rattle.request_words.specs.Run.{served, ran_to, answers_to}
+use Rattle.request_words.specs.Layout.{request_words, answer_words, words_of, Brought, requests_from}
+use Rattle.request_words.specs.Run.{served}
 use Rattle.request_words.proofs.RunLaws.{room, ran_to-live, ran_to-answers}
-
 use Rattle.request_words.specs.RunOfList.{RunOfList, Serves}
 
 -- as many as are served

@@ -1,24 +1,18 @@
 -- Theorems of specs/RunRelease.antt. Assumes nothing.
-use Rattle.std.specs.Prelude.{◌≡◌, true, List, ◌++◌, ℕ, zero, suc, ◌*◌, ◌<◌, ◌≤◌, length}
+use Rattle.std.specs.Prelude.{◌≡◌, List, ◌++◌, ℕ, zero, suc, ◌*◌, ◌<◌, ◌≤◌, length}
 use Rattle.std.proofs.Common.{sym, ap, ◌∙◌, arith}
-use Rattle.kinds.specs.Words.{at}
-use Rattle.kinds.specs.declared.lookup.Owner.TheVariants.{Of}
-use Rattle.kinds.specs.declared.number.PeNumber.{PeNumber}
 use Rattle.kinds.specs.declared.request.Request.{Request}
-use Rattle.history.specs.History.{history, cleared, stop_of, record_of, record_at, Zeros, unfrozen}
+use Rattle.history.specs.History.{unfrozen}
 use Rattle.history.proofs.Release.{released, left_both}
 use Rattle.isolation.proofs.Corollaries.{ran}
 use Rattle.isolation.specs.Isolation.{left}
 use Rattle.isolation.specs.View.{Bridge}
-use Rattle.profile.specs.Freeze.{stop_word}
-use Rattle.profile.specs.Owner.{owner}
 use Rattle.profile.specs.Step.{answered}
 use Rattle.profile.specs.Tables.{Live}
-use Rattle.request_words.specs.Layout.{answer_words, decoded_at, requests_from, answer_list, words_at}
+use Rattle.request_words.specs.Layout.{answer_words, decoded_at, answer_list, words_at}
 use Rattle.request_words.specs.Run.{served, ran_to}
 use Rattle.request_words.proofs.RunLaws.{room, ran_to-live, ran_to-answers}
-
-use Rattle.request_words.specs.RunRelease.{RunReleased, answers_first, run_left, run_requests}
+use Rattle.request_words.specs.RunRelease.{RunReleased, run_left, run_requests}
 
 -- a run after a list leaves what the list of both leaves
 run_left_lem : (a : Bridge) (l : List Request) (w x : List ℕ) → run_left (ran a l) w x ≡ left a (l ++ run_requests w x)

@@ -22,7 +22,7 @@ use Rattle.profile.proofs.Opened.{opened}
 use Rattle.profile.specs.Tables.{Live}
 use Rattle.request_words.specs.Layout.{decoded, decoded_dma, decoded_clear, written}
 use Rattle.request_words.proofs.LayoutCases.{eight}
-use Rattle.request_words.specs.Run.{ran_on, ran_to}
+use Rattle.request_words.specs.Run.{ran_on}
 use Rattle.request_words.specs.RunRelease.{run_requests, run_left, answers_first}
 use Rattle.request_words.proofs.RunRelease.{run_released}
 

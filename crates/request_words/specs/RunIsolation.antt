@@ -5,26 +5,17 @@
 --     RunIsolation        THE CLAIM: `Isolation`, with words in the place of requests and answers
 --     run-isolation       THE THEOREM
 -- Assumes nothing.
-use Rattle.std.specs.Prelude.{◌≡◌, Bool, cond, List, [], ◌∷◌, ◌++◌, map, drop}
-use Rattle.std.proofs.Math.Path.{refl}
-use Rattle.std.proofs.Common.{sym, ap, ◌∙◌, append_assoc, arith, length-append}
-use Prim.Native.Nat.{ℕ, zero, suc, ◌*◌, ◌≤◌}
-use Rattle.std.proofs.Math.Nat.{suc-mul}
-use Rattle.std.proofs.Math.ListN.{length}
-use Rattle.kinds.proofs.Tests.{by_cases}
+use Rattle.std.specs.Prelude.{◌≡◌, Bool, cond, List, [], ◌∷◌}
+use Prim.Native.Nat.{ℕ, zero, suc}
 use Rattle.kinds.specs.Words.{at}
 use Rattle.kinds.specs.declared.number.PeNumber.{PeNumber}
 use Rattle.kinds.specs.declared.request.Request.{Request}
-use Rattle.isolation.specs.Isolation.{machine, Place, places_in}
-use Rattle.isolation.proofs.Isolation.{isolation, belongs-keeps}
-use Rattle.isolation.specs.Machine.{seen}
+use Rattle.isolation.specs.Isolation.{Place, places_in}
 use Rattle.isolation.specs.View.{Bridge, Written, View}
 use Rattle.profile.specs.Agree.{belongs, Closed}
 use Rattle.profile.specs.Fence.{fence_word}
-use Rattle.profile.specs.Step.{answered, after}
-use Rattle.profile.specs.Tables.{Live}
-use Rattle.request_words.specs.Layout.{answer_words, decoded_at, requests_from, answer_list, answers_of, words_at}
-use Rattle.request_words.specs.Run.{served, ran_to, answers_to}
+use Rattle.request_words.specs.Layout.{decoded_at, requests_from, words_at}
+use Rattle.request_words.specs.Run.{served, ran_to}
 
 abbrev pub run_places : (PeNumber → Bool) → Bridge → (requests : List ℕ) → (n : ℕ) → List (Place Request)
 run_places G a w n = places_in G a (requests_from w 0 n)

@@ -5,15 +5,12 @@
 --                         have room, and else the first ones, as many as they have room for
 --     run-of-list         THE THEOREM
 -- Assumes nothing.
-use Rattle.std.specs.Prelude.{◌≡◌, List, ◌++◌, ℕ, ◌+◌, ◌*◌, ◌/◌, ◌<◌, ◌≤◌, length, take}
-use Rattle.std.proofs.Common.{sym, ◌∙◌, arith, length-append, length-take-le}
-use Rattle.std.proofs.Math.Nat.{min-eq_left, min-eq_right}
-use Rattle.std.proofs.Math.Seq.{take-length}
+use Rattle.std.specs.Prelude.{◌≡◌, List, ◌++◌, ℕ, ◌*◌, ◌/◌, ◌<◌, ◌≤◌, length, take}
 use Rattle.kinds.specs.declared.request.Request.{Request}
 use Rattle.isolation.specs.Machine.{end}
 use Rattle.profile.specs.Step.{after}
 use Rattle.profile.specs.Tables.{Tables, Live}
-use Rattle.request_words.specs.Layout.{request_words, answer_words, words_of, Brought, requests_from, answers_of, over}
+use Rattle.request_words.specs.Layout.{request_words, answer_words, words_of, Brought, answers_of, over}
 use Rattle.request_words.specs.Run.{served, ran_to, answers_to}
 
 pub record Serves (f : Tables) (m : List ℕ) (s : Live) (w x : List ℕ) (l : List Request) : Type 0 where

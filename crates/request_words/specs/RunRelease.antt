@@ -6,22 +6,19 @@
 --                         earlier runs
 --     run-released        THE THEOREM
 -- Assumes nothing.
-use Rattle.std.specs.Prelude.{◌≡◌, true, List, ◌++◌, ℕ, zero, suc, ◌*◌, ◌<◌, ◌≤◌, length}
-use Rattle.std.proofs.Common.{sym, ap, ◌∙◌, arith}
+use Rattle.std.specs.Prelude.{◌≡◌, true, List, ◌++◌, ℕ, ◌<◌}
 use Rattle.kinds.specs.Words.{at}
 use Rattle.kinds.specs.declared.lookup.Owner.TheVariants.{Of}
 use Rattle.kinds.specs.declared.number.PeNumber.{PeNumber}
 use Rattle.kinds.specs.declared.request.Request.{Request}
 use Rattle.history.specs.History.{history, cleared, stop_of, record_of, record_at, Zeros, unfrozen}
-use Rattle.history.proofs.Release.{released, left_both}
 use Rattle.isolation.proofs.Corollaries.{ran}
 use Rattle.isolation.specs.Isolation.{left}
 use Rattle.isolation.specs.View.{Bridge}
 use Rattle.profile.specs.Freeze.{stop_word}
 use Rattle.profile.specs.Owner.{owner}
-use Rattle.profile.specs.Step.{answered}
 use Rattle.profile.specs.Tables.{Live}
-use Rattle.request_words.specs.Layout.{answer_words, decoded_at, requests_from, answer_list, words_at}
+use Rattle.request_words.specs.Layout.{decoded_at, requests_from, words_at}
 use Rattle.request_words.specs.Run.{served, ran_to}
 
 abbrev pub run_requests : (requests answers : List ℕ) → List Request

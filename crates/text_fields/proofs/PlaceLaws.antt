@@ -5,7 +5,7 @@
 --     after-most          a field that begins in the line ends in it
 --     only-bad, only-more, only-last    what the one field after a place holds: a field that is not read, more than one field, the last field
 -- Assumes nothing.
-use Rattle.std.specs.Prelude.{◌≡◌, ℕ, ◌+◌, ◌-◌, ◌≤◌, ◌<◌, ltb, eqb, length, take, drop}
+use Rattle.std.specs.Prelude.{◌≡◌, ℕ, ◌+◌, ◌≤◌, ◌<◌, ltb, eqb, length, take, drop}
 use Rattle.std.proofs.Math.Path.{refl}
 use Rattle.std.proofs.Common.{ap, add-one, arith, drop_of_length-le, length-drop, drop-cons, drop-drop, length-take-le, ltb-true, ltb-false}
 use mathlib.Core.List.{List, [], ◌∷◌}

@@ -1,7 +1,7 @@
 -- A name in its padding.
 --     padded-length       a padding has nameMost bytes; padded-name: the name is its first bytes
 -- Assumes nothing.
-use Rattle.std.specs.Prelude.{◌≡◌, List, ◌++◌, ℕ, ◌+◌, length, take, replicate}
+use Rattle.std.specs.Prelude.{◌≡◌, List, ◌++◌, ℕ, length, take, replicate}
 use Rattle.std.proofs.Common.{◌∙◌, arith, length-append, take-take, length-take-le}
 use Rattle.std.proofs.Math.Seq.{take-append_seam}
 use Rattle.replay_text.specs.Name.{name_of, name_most}

@@ -1,6 +1,5 @@
 -- `cache_dma::look` meets its contract. Assumes nothing.
 use Rattle.cache_dma.proofs.CacheDmaLaws as laws
-use borrow.Author.Rules.{rules}
 use Rattle.cache_dma.proofs.look.Goals as goal
 
 pub returns-then-allows : goal.returns-then-allows

@@ -1,6 +1,5 @@
 -- `cache_dma::walk_and_fill` meets its contract. Assumes nothing.
 use Rattle.cache_dma.proofs.CacheDmaLaws as laws
-use borrow.Author.Rules.{rules}
 use Rattle.cache_dma.proofs.walk_and_fill.Goals as goal
 
 pub returns-then-is_pass : goal.returns-then-is_pass

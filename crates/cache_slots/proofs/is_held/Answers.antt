@@ -1,6 +1,5 @@
 -- `cache_slots::is_held` meets its contract. Assumes nothing.
 use Rattle.cache_slots.proofs.SlotLaws as laws
-use borrow.Author.Rules.{rules}
 use Rattle.cache_slots.proofs.is_held.Goals as goal
 
 pub returns-then-tag-wanted : goal.returns-then-tag-wanted

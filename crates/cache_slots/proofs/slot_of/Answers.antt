@@ -1,6 +1,5 @@
 -- `cache_slots::slot_of` meets its contract. Assumes nothing.
 use Rattle.cache_slots.proofs.SlotLaws as laws
-use borrow.Author.Rules.{rules}
 use Rattle.cache_slots.proofs.slot_of.Goals as goal
 
 pub returns : goal.returns

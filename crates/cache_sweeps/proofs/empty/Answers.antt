@@ -1,6 +1,5 @@
 -- `cache_sweeps::empty` meets its contract. Assumes nothing.
 use Rattle.cache_sweeps.proofs.SweepLaws as laws
-use borrow.Author.Rules.{rules}
 use Rattle.cache_sweeps.proofs.empty.Goals as goal
 
 pub returns-then-named : goal.returns-then-named

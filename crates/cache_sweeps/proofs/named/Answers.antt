@@ -1,6 +1,5 @@
 -- `cache_sweeps::named` meets its contract. Assumes nothing.
 use Rattle.cache_sweeps.proofs.SweepLaws as laws
-use borrow.Author.Rules.{rules}
 use Rattle.cache_sweeps.proofs.named.Goals as goal
 
 pub returns-in-All : goal.returns-in-All

@@ -1,6 +1,5 @@
 -- `cache_sweeps::of_page` meets its contract. Assumes nothing.
 use Rattle.cache_sweeps.proofs.SweepLaws as laws
-use borrow.Author.Rules.{rules}
 use Rattle.cache_sweeps.proofs.of_page.Goals as goal
 
 pub returns-then-second-half : goal.returns-then-second-half

@@ -1,6 +1,5 @@
 -- `cache_sweeps::page_drops` meets its contract. Assumes nothing.
 use Rattle.cache_sweeps.proofs.SweepLaws as laws
-use borrow.Author.Rules.{rules}
 use Rattle.cache_sweeps.proofs.page_drops.Goals as goal
 
 pub returns-then-is_paged : goal.returns-then-is_paged

@@ -1,14 +1,9 @@
 -- `cache_sweeps::sweep` meets its contract. Assumes nothing.
 use Rattle.cache_sweeps.proofs.SweepLaws as laws
-use mathlib.Core.Path.{◌≡◌, refl}
-use Prim.Native.Nat.{◌+◌, ◌-◌, ◌*◌, ◌≤◌}
+use mathlib.Core.Path.{refl}
 use native.Mathlib.Omega.{arith}
-use lib.ListN.{length}
 use borrow.Author.Rules.{rules}
 use Rattle.kinds.specs.Turns.{turns}
-use Rattle.cache.specs.Slots.{slot_words}
-use Rattle.cache_sweeps.specs.Drops.{tests}
-use Rattle.cache_sweeps.specs.Turn.{turned}
 use Rattle.cache_sweeps.proofs.sweep.Goals as goal
 
 pub loop-k-init : goal.loop-k-init

@@ -1,9 +1,6 @@
-use Rattle.cache_sweeps.proofs.SweepLaws as laws
-use mathlib.Core.Path.{◌≡◌, refl}
+use mathlib.Core.Path.{◌≡◌}
 use Prim.Native.Nat.{◌+◌, ◌-◌, ◌*◌, ◌≤◌}
-use native.Mathlib.Omega.{arith}
 use lib.ListN.{length}
-use borrow.Author.Rules.{rules}
 use Rattle.kinds.specs.Turns.{turns}
 use Rattle.cache.specs.Slots.{slot_words}
 use Rattle.cache_sweeps.specs.Drops.{tests}

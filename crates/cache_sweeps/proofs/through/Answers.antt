@@ -1,6 +1,5 @@
 -- `cache_sweeps::through` meets its contract. Assumes nothing.
 use Rattle.cache_sweeps.proofs.SweepLaws as laws
-use borrow.Author.Rules.{rules}
 use Rattle.cache_sweeps.proofs.through.Goals as goal
 
 pub returns-then-pes-number : goal.returns-then-pes-number

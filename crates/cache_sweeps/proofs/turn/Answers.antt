@@ -1,6 +1,5 @@
 -- `cache_sweeps::turn` meets its contract. Assumes nothing.
 use Rattle.cache_sweeps.proofs.SweepLaws as laws
-use borrow.Author.Rules.{rules}
 use Rattle.cache_sweeps.proofs.turn.Goals as goal
 
 pub returns-then-tag-lt1 : goal.returns-then-tag-lt1

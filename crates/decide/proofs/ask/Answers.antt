@@ -2,7 +2,6 @@
 use Rattle.profile.specs.Fence.{stops, shut}
 use Rattle.decide.proofs.AskLaws as laws
 use Rattle.decide.proofs.FencedLaws as fenced
-use borrow.Author.Rules.{rules}
 use Rattle.decide.proofs.ask.Goals as goal
 
 pub returns-then-fenced : goal.returns-then-fenced

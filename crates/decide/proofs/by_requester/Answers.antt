@@ -1,7 +1,6 @@
 -- `decide::by_requester` meets its contract. Assumes nothing.
 use Rattle.owners.proofs.ByOwnerLaws.{of_nobody}
 use Rattle.decide.proofs.AskLaws as laws
-use borrow.Author.Rules.{rules}
 use Rattle.decide.proofs.by_requester.Goals as goal
 
 pub returns-in-Of : goal.returns-in-Of

@@ -1,6 +1,5 @@
 -- `decide::check` meets its contract. Assumes nothing.
 use Rattle.decide.proofs.DecideLaws as laws
-use borrow.Author.Rules.{rules}
 use Rattle.decide.proofs.check.Goals as goal
 
 pub overflow_cast-sizes : goal.overflow_cast-sizes

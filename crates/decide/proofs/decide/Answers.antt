@@ -1,6 +1,5 @@
 -- `decide::decide` meets its contract. Assumes nothing.
 use Rattle.decide.proofs.FinishedLaws as laws
-use borrow.Author.Rules.{rules}
 use Rattle.decide.proofs.decide.Goals as goal
 
 pub returns : goal.returns

@@ -1,6 +1,5 @@
 -- `decide::error_message` meets its contract. Assumes nothing.
 use Rattle.owners.proofs.ByOwnerLaws as by-owner
-use borrow.Author.Rules.{rules}
 use Rattle.decide.proofs.error_message.Goals as goal
 
 pub returns-in-Of : goal.returns-in-Of

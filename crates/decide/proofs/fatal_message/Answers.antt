@@ -1,6 +1,5 @@
 -- `decide::fatal_message` meets its contract. Assumes nothing.
 use Rattle.owners.proofs.ByOwnerLaws as by-owner
-use borrow.Author.Rules.{rules}
 use Rattle.decide.proofs.fatal_message.Goals as goal
 
 pub returns-in-Of : goal.returns-in-Of

@@ -1,6 +1,5 @@
 -- `decide::message` meets its contract. Assumes nothing.
 use Rattle.decide.proofs.AskLaws as laws
-use borrow.Author.Rules.{rules}
 use Rattle.decide.proofs.message.Goals as goal
 
 pub returns : goal.returns

@@ -1,6 +1,5 @@
 -- `dma::by_class` meets its contract. Assumes nothing.
 use Rattle.dma.proofs.DmaLaws as laws
-use borrow.Author.Rules.{rules}
 use Rattle.dma.proofs.by_class.Goals as goal
 
 pub returns-in-Dma : goal.returns-in-Dma

@@ -1,6 +1,5 @@
 -- `dma::by_entry` meets its contract. Assumes nothing.
 use Rattle.dma.proofs.DmaLaws as laws
-use borrow.Author.Rules.{rules}
 use Rattle.dma.proofs.by_entry.Goals as goal
 
 pub returns-then-is_walk : goal.returns-then-is_walk

@@ -1,6 +1,5 @@
 -- `dma::check_dma` meets its contract. Assumes nothing.
 use Rattle.dma.proofs.DmaLaws as laws
-use borrow.Author.Rules.{rules}
 use Rattle.dma.proofs.check_dma.Goals as goal
 
 pub returns-then-dma_stopped : goal.returns-then-dma_stopped

@@ -1,6 +1,5 @@
 -- `dma::deliver` meets its contract. Assumes nothing.
 use Rattle.dma.proofs.DmaLaws as laws
-use borrow.Author.Rules.{rules}
 use Rattle.dma.proofs.deliver.Goals as goal
 
 pub returns-then-number-count : goal.returns-then-number-count

@@ -1,6 +1,5 @@
 -- `dma::finish_walk` meets its contract. Assumes nothing.
 use Rattle.dma.proofs.DmaLaws as laws
-use borrow.Author.Rules.{rules}
 use Rattle.dma.proofs.finish_walk.Goals as goal
 
 pub returns : goal.returns

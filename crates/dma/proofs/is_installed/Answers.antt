@@ -1,6 +1,5 @@
 -- `dma::is_installed` meets its contract. Assumes nothing.
 use Rattle.dma.proofs.DmaLaws as laws
-use borrow.Author.Rules.{rules}
 use Rattle.dma.proofs.is_installed.Goals as goal
 
 pub returns-then-installed-reach : goal.returns-then-installed-reach

@@ -1,6 +1,5 @@
 -- `dma::last_test` meets its contract. Assumes nothing.
 use Rattle.dma.proofs.DmaLaws as laws
-use borrow.Author.Rules.{rules}
 use Rattle.dma.proofs.last_test.Goals as goal
 
 pub returns-then-is_installed : goal.returns-then-is_installed

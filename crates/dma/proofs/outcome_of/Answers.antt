@@ -1,7 +1,6 @@
 -- `dma::outcome_of` meets its contract. Assumes nothing.
 use Rattle.profile.specs.Step.{outcome_of}
 use Rattle.dma.proofs.DmaLaws as laws
-use borrow.Author.Rules.{rules}
 use Rattle.dma.proofs.outcome_of.Goals as goal
 
 pub returns-in-To : goal.returns-in-To

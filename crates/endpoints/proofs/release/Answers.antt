@@ -1,6 +1,5 @@
 -- `endpoints::release` meets its contract. Assumes nothing.
 use Rattle.endpoints.proofs.ReleaseLaws as laws
-use borrow.Author.Rules.{rules}
 use Rattle.endpoints.proofs.release.Goals as goal
 
 pub returns-in-Mmio : goal.returns-in-Mmio

@@ -1,6 +1,5 @@
 -- `fence::with_fence` meets its contract. Assumes nothing.
 use Rattle.fence.proofs.FenceLaws as laws
-use borrow.Author.Rules.{rules}
 use Rattle.fence.proofs.with_fence.Goals as goal
 
 pub returns-then-bit : goal.returns-then-bit

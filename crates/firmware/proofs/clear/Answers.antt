@@ -1,7 +1,6 @@
 -- `firmware::clear` meets its contract. Assumes nothing.
 use Rattle.owners.proofs.ByOwnerLaws as by-owner
 use Rattle.firmware.proofs.RequestLaws as laws
-use borrow.Author.Rules.{rules}
 use Rattle.firmware.proofs.clear.Goals as goal
 
 pub returns-in-Of : goal.returns-in-Of

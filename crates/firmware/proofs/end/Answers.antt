@@ -1,7 +1,6 @@
 -- `firmware::end` meets its contract. Assumes nothing.
 use Rattle.owners.proofs.ByOwnerLaws as by-owner
 use Rattle.firmware.proofs.RequestLaws as laws
-use borrow.Author.Rules.{rules}
 use Rattle.firmware.proofs.end.Goals as goal
 
 pub returns-in-Of : goal.returns-in-Of

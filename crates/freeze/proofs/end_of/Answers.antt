@@ -1,6 +1,5 @@
 -- `freeze::end_of` meets its contract. Assumes nothing.
 use Rattle.freeze.proofs.Laws as laws
-use borrow.Author.Rules.{rules}
 use Rattle.freeze.proofs.end_of.Goals as goal
 
 pub returns-then-pes-held : goal.returns-then-pes-held

@@ -1,6 +1,5 @@
 -- `freeze::freeze` meets its contract. Assumes nothing.
 use Rattle.freeze.proofs.Laws as laws
-use borrow.Author.Rules.{rules}
 use Rattle.freeze.proofs.freeze.Goals as goal
 
 pub slice_bounds-freeze_all-end : goal.slice_bounds-freeze_all-end

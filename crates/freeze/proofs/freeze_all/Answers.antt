@@ -1,6 +1,5 @@
 -- `freeze::freeze_all` meets its contract. Assumes nothing.
 use Rattle.freeze.proofs.Laws as laws
-use borrow.Author.Rules.{rules}
 use Rattle.freeze.proofs.freeze_all.Goals as goal
 
 pub returns-then-lists_nobody : goal.returns-then-lists_nobody

@@ -1,6 +1,5 @@
 -- `freeze::record` meets its contract. Assumes nothing.
 use Rattle.freeze.proofs.Laws as laws
-use borrow.Author.Rules.{rules}
 use Rattle.freeze.proofs.record.Goals as goal
 
 pub returns : goal.returns

@@ -1,6 +1,5 @@
 -- `freeze::stop` meets its contract. Assumes nothing.
 use Rattle.freeze.proofs.Laws as laws
-use borrow.Author.Rules.{rules}
 use Rattle.freeze.proofs.stop.Goals as goal
 
 pub returns-then-recorded-eq0 : goal.returns-then-recorded-eq0

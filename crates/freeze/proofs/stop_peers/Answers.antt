@@ -2,13 +2,9 @@
 -- Assumes nothing.
 use Rattle.freeze.proofs.Laws as laws
 use borrow.Author.Rules.{rules}
-use mathlib.Core.Path.{◌≡◌, refl}
-use Prim.Native.Nat.{◌+◌, ◌-◌, ◌*◌, ◌≤◌}
+use mathlib.Core.Path.{refl}
 use native.Mathlib.Omega.{arith}
-use lib.ListN.{length}
 use Rattle.kinds.specs.Turns.{turns}
-use Rattle.profile.specs.Tables.{state_words}
-use Rattle.freeze.specs.Turn.{peer_turn}
 use Rattle.freeze.proofs.stop_peers.Goals as goal
 
 pub loop-k-init : goal.loop-k-init

@@ -1,6 +1,5 @@
 -- `freeze::turn` meets its contract. Assumes nothing.
 use Rattle.freeze.proofs.Laws as laws
-use borrow.Author.Rules.{rules}
 use Rattle.freeze.proofs.turn.Goals as goal
 
 pub returns-then-k-failing : goal.returns-then-k-failing

@@ -1,6 +1,5 @@
 -- `isolation_groups::has_mark` meets its contract. Assumes nothing.
 use Rattle.isolation_groups.proofs.GroupLaws as laws
-use borrow.Author.Rules.{rules}
 use Rattle.isolation_groups.proofs.has_mark.Goals as goal
 
 pub returns-then-bits-eq0 : goal.returns-then-bits-eq0

@@ -1,6 +1,5 @@
 -- `isolation_groups::is_member` meets its contract. Assumes nothing.
 use Rattle.isolation_groups.proofs.GroupLaws as laws
-use borrow.Author.Rules.{rules}
 use Rattle.isolation_groups.proofs.is_member.Goals as goal
 
 pub returns-then-number-lt-MOST_PES : goal.returns-then-number-lt-MOST_PES

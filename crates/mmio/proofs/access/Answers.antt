@@ -1,6 +1,5 @@
 -- `mmio::access` meets its contract. Assumes nothing.
 use Rattle.mmio.proofs.MmioLaws as laws
-use borrow.Author.Rules.{rules}
 use Rattle.mmio.proofs.access.Goals as goal
 
 pub returns-in-At : goal.returns-in-At

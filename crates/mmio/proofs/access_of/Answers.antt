@@ -1,7 +1,6 @@
 -- `mmio::access_of` meets its contract. Assumes nothing.
 use Rattle.owners.proofs.ByOwnerLaws as by-owner
 use Rattle.mmio.proofs.OwnedLaws as laws
-use borrow.Author.Rules.{rules}
 use Rattle.mmio.proofs.access_of.Goals as goal
 
 pub returns-in-Of : goal.returns-in-Of

@@ -1,6 +1,5 @@
 -- `mmio::ones` meets its contract. Assumes nothing.
 use Rattle.mmio.proofs.MmioLaws as laws
-use borrow.Author.Rules.{rules}
 use Rattle.mmio.proofs.ones.Goals as goal
 
 pub returns-then-width-lt8 : goal.returns-then-width-lt8

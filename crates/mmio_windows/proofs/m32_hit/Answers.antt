@@ -1,6 +1,5 @@
 -- `mmio_windows::m32_hit` meets its contract. Assumes nothing.
 use Rattle.mmio_windows.proofs.RouteLaws as laws
-use Rattle.std.proofs.Common.{rules}
 use Rattle.mmio_windows.proofs.m32_hit.Goals as goal
 
 pub segment-index-requires : goal.segment-index-requires

@@ -1,7 +1,6 @@
 -- `mmio_windows::m64_route` meets its contract. The invariant: the first of all M64 windows that takes the address is the first of those left.
 -- The measure is how many are left. Assumes nothing.
-use Rattle.std.proofs.Common.{◌≡◌, ◌-◌, ◌≤◌, rules}
-use Rattle.profile.specs.Windows.{m64_count, m64_from}
+use Rattle.std.proofs.Common.{rules}
 use Rattle.mmio_windows.proofs.RouteLaws as laws
 use Rattle.mmio_windows.proofs.m64_route.Goals as goal
 

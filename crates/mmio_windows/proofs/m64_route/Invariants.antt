@@ -1,6 +1,5 @@
-use Rattle.std.proofs.Common.{◌≡◌, ◌-◌, ◌≤◌, rules}
+use Rattle.std.proofs.Common.{◌≡◌, ◌-◌, ◌≤◌}
 use Rattle.profile.specs.Windows.{m64_count, m64_from}
-use Rattle.mmio_windows.proofs.RouteLaws as laws
 use Rattle.mmio_windows.proofs.m64_route.Given as goal
 
 abbrev pub invariant-loop-left : goal.invariant-loop-left

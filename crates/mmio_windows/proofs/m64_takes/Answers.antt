@@ -1,6 +1,5 @@
 -- `mmio_windows::m64_takes` meets its contract. Assumes nothing.
 use Rattle.mmio_windows.proofs.OpenLaws as laws
-use Rattle.std.proofs.Common.{rules}
 use Rattle.mmio_windows.proofs.m64_takes.Goals as goal
 
 pub returns-then-mode-eq0 : goal.returns-then-mode-eq0

@@ -1,6 +1,5 @@
 -- `mmio_windows::route` meets its contract. Assumes nothing.
 use Rattle.mmio_windows.proofs.RouteLaws as laws
-use Rattle.std.proofs.Common.{rules}
 use Rattle.mmio_windows.proofs.route.Goals as goal
 
 pub returns-then-m32_takes : goal.returns-then-m32_takes

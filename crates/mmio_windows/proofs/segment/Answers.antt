@@ -1,6 +1,5 @@
 -- `mmio_windows::segment` meets its contract. Assumes nothing.
 use Rattle.mmio_windows.proofs.Powers as powers
-use Rattle.std.proofs.Common.{rules}
 use Rattle.mmio_windows.proofs.segment.Goals as goal
 
 pub returns : goal.returns

@@ -1,6 +1,5 @@
 -- `msi::arrive` meets its contract. Assumes nothing.
 use Rattle.msi.proofs.MsiLaws as laws
-use borrow.Author.Rules.{rules}
 use Rattle.msi.proofs.arrive.Goals as goal
 
 pub overflow_add-result : goal.overflow_add-result

@@ -2,7 +2,6 @@
 use Rattle.msi.proofs.MsiLaws as laws
 use Rattle.profile.specs.Msi.{delivered}
 use Rattle.kinds.proofs.Tests.{tests}
-use borrow.Author.Rules.{rules}
 use Rattle.msi.proofs.deliver.Goals as goal
 
 pub returns-then-in_range : goal.returns-then-in_range

@@ -1,6 +1,5 @@
 -- `msi::msi_formed` meets its contract. Assumes nothing.
 use Rattle.msi.proofs.MsiLaws as laws
-use borrow.Author.Rules.{rules}
 use Rattle.msi.proofs.msi_formed.Goals as goal
 
 pub returns-then-length-eq4 : goal.returns-then-length-eq4

@@ -1,7 +1,6 @@
 -- `owners::named_pe` meets its contract. Assumes nothing.
 use Rattle.kinds.proofs.Tests.{tests}
 use Rattle.profile.specs.Tables.{named}
-use borrow.Author.Rules.{rules}
 use Rattle.owners.proofs.named_pe.Goals as goal
 
 pub returns-then-number-pes : goal.returns-then-number-pes

@@ -1,7 +1,6 @@
 -- `owners::owner_of` meets its contract. Assumes nothing.
 use Rattle.owners.proofs.OwnerLaws as laws
 use Rattle.profile.specs.Owner.{owner_in}
-use borrow.Author.Rules.{rules}
 use Rattle.owners.proofs.owner_of.Goals as goal
 
 pub returns-in-Dma : goal.returns-in-Dma

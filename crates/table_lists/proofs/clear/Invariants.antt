@@ -1,6 +1,4 @@
-use Rattle.table_lists.proofs.ListLaws as laws
-use borrow.Author.Rules.{rules}
-use mathlib.Core.Path.{◌≡◌, refl}
+use mathlib.Core.Path.{◌≡◌}
 use Prim.Native.Nat.{◌-◌, ◌≤◌}
 use lib.ListN.{length, take, replicate}
 use Rattle.table_lists.proofs.clear.Given as goal

@@ -1,8 +1,6 @@
-use mathlib.Core.Path.{◌≡◌, refl}
+use mathlib.Core.Path.{◌≡◌}
 use Prim.Native.Nat.{◌-◌, ◌≤◌}
 use lib.ListN.{length, take, replicate}
-use borrow.Author.Rules.{rules}
-use Rattle.table_lists.proofs.ListLaws as laws
 use Rattle.table_lists.proofs.clear_short.Given as goal
 
 abbrev pub invariant-loop-i : goal.invariant-loop-i

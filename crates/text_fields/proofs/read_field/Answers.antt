@@ -1,6 +1,5 @@
 -- `text_fields::read_field` meets its contract. Assumes nothing.
 use Rattle.text_fields.proofs.ReadInLaws as laws
-use borrow.Author.Rules.{rules}
 use Rattle.text_fields.proofs.read_field.Goals as goal
 
 pub returns-then-line-from : goal.returns-then-line-from

@@ -1,5 +1,4 @@
 -- `text_report::put_end` meets its contract. Assumes nothing.
-use borrow.Author.Rules.{rules}
 use Rattle.text_report.proofs.WriteLaws as laws
 use Rattle.text_report.proofs.put_end.Goals as goal
 

@@ -1,6 +1,5 @@
 -- `text_report::put_head` meets its contract. Assumes nothing.
 use Rattle.text_report.proofs.WriteLaws as laws
-use borrow.Author.Rules.{rules}
 use Rattle.text_report.proofs.put_head.Goals as goal
 
 pub name_field-requires : goal.name_field-requires

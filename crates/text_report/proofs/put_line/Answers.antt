@@ -1,6 +1,5 @@
 -- `text_report::put_line` meets its contract. Assumes nothing.
 use Rattle.text_report.proofs.WriteLaws as laws
-use borrow.Author.Rules.{rules}
 use Rattle.text_report.proofs.put_line.Goals as goal
 
 pub put_tail-requires : goal.put_tail-requires

@@ -1,5 +1,4 @@
 -- `text_report::put_tail` meets its contract. Assumes nothing.
-use borrow.Author.Rules.{rules}
 use Rattle.text_report.proofs.WriteLaws as laws
 use Rattle.text_report.proofs.put_tail.Goals as goal
 

@@ -2,7 +2,6 @@
 use Rattle.text_report.proofs.WriteLaws as laws
 use Rattle.replay_text.proofs.TextLaws.{line-most}
 use Rattle.text_report.proofs.FreeLaws as room
-use borrow.Author.Rules.{rules}
 use Rattle.text_report.proofs.write_line.Goals as goal
 
 pub returns-then-out-lt-LINE_MOST : goal.returns-then-out-lt-LINE_MOST

@@ -1,7 +1,6 @@
 -- `decide::forms::dma_formed` meets its contract. Assumes nothing.
 use Rattle.profile.specs.Step.{dma_formed}
 use Rattle.kinds.proofs.Tests.{tests}
-use borrow.Author.Rules.{rules}
 use Rattle.decide.proofs.forms.dma_formed.Goals as goal
 
 pub returns-then-length-lt1 : goal.returns-then-length-lt1

@@ -1,7 +1,6 @@
 -- `decide::forms::is_formed` meets its contract. Assumes nothing.
 use Rattle.profile.specs.Step.{formed}
 use Rattle.decide.proofs.FormLaws as laws
-use borrow.Author.Rules.{rules}
 use Rattle.decide.proofs.forms.is_formed.Goals as goal
 
 pub returns-in-Dma : goal.returns-in-Dma

@@ -1,6 +1,5 @@
 -- `dma_entry::addresses::class_of` meets its contract. Assumes nothing.
 use Rattle.dma_entry.proofs.AddressLaws as laws
-use borrow.Author.Rules.{rules}
 use Rattle.dma_entry.proofs.addresses.class_of.Goals as goal
 
 pub returns-in-0 : goal.returns-in-0

@@ -1,6 +1,5 @@
 -- `dma_entry::ask::ask` meets its contract. Assumes nothing.
 use Rattle.dma_entry.proofs.EntryLaws as laws
-use borrow.Author.Rules.{rules}
 use Rattle.dma_entry.proofs.ask.ask.Goals as goal
 
 pub returns-then-table-lt1 : goal.returns-then-table-lt1

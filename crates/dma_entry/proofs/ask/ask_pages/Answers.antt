@@ -1,6 +1,5 @@
 -- `dma_entry::ask::ask_pages` meets its contract. Assumes nothing.
 use Rattle.dma_entry.proofs.EntryLaws as laws
-use borrow.Author.Rules.{rules}
 use Rattle.dma_entry.proofs.ask.ask_pages.Goals as goal
 
 pub overflow_shl-span : goal.overflow_shl-span

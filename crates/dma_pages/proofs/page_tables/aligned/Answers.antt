@@ -1,6 +1,5 @@
 -- `dma_pages::page_tables::aligned` meets its contract. Assumes nothing.
 use Rattle.dma_pages.proofs.ShapeLaws as laws
-use borrow.Author.Rules.{rules}
 use Rattle.dma_pages.proofs.page_tables.aligned.Goals as goal
 
 pub returns-then-bits-gt-MOST_BITS : goal.returns-then-bits-gt-MOST_BITS

@@ -1,6 +1,5 @@
 -- `dma_pages::page_tables::is_paged` meets its contract. Assumes nothing.
 use Rattle.dma_pages.proofs.PagedLaws as laws
-use borrow.Author.Rules.{rules}
 use Rattle.dma_pages.proofs.page_tables.is_paged.Goals as goal
 
 pub returns-then-table-lt1 : goal.returns-then-table-lt1

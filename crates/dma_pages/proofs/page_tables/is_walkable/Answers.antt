@@ -1,6 +1,5 @@
 -- `dma_pages::page_tables::is_walkable` meets its contract. Assumes nothing.
 use Rattle.dma_pages.proofs.ShapeLaws as laws
-use borrow.Author.Rules.{rules}
 use Rattle.dma_pages.proofs.page_tables.is_walkable.Goals as goal
 
 pub returns-then-table-gt-MOST_TABLE_CODE : goal.returns-then-table-gt-MOST_TABLE_CODE

@@ -1,6 +1,5 @@
 -- `dma_pages::page_tables::shape_of` meets its contract. Assumes nothing.
 use Rattle.dma_pages.proofs.ShapeLaws as laws
-use borrow.Author.Rules.{rules}
 use Rattle.dma_pages.proofs.page_tables.shape_of.Goals as goal
 
 pub returns-in_default : goal.returns-in_default

@@ -1,5 +1,4 @@
 -- `dma_pages::pages::byte_address` meets its contract. Assumes nothing.
-use borrow.Author.Rules.{rules}
 use Rattle.dma_pages.proofs.PageLaws as laws
 use Rattle.dma_pages.proofs.pages.byte_address.Goals as goal
 

@@ -1,12 +1,6 @@
 -- `dma_walk::touch::reads_word` meets its contract. The invariant: the walk from the top reads the word exactly where the walk of the levels that are
 -- left does. The measure is the number of levels that are left. Assumes nothing.
-use mathlib.Core.Path.{◌≡◌}
-use mathlib.Core.Bool.{true}
-use Prim.Native.Nat.{◌+◌, ◌*◌, ◌≤◌}
 use borrow.Author.Rules.{rules}
-use Rattle.kinds.specs.Has.{has}
-use Rattle.profile.specs.Entry.{aligned, offset_bits, most_table_code, code_bits, most_levels}
-use Rattle.profile.specs.Walk.{walk_from}
 use Rattle.dma_walk.proofs.LoopLaws as loop
 use Rattle.dma_walk.proofs.TouchLaws as laws
 use Rattle.dma_walk.proofs.touch.reads_word.Goals as goal

@@ -1,12 +1,9 @@
 use mathlib.Core.Path.{◌≡◌}
 use mathlib.Core.Bool.{true}
 use Prim.Native.Nat.{◌+◌, ◌*◌, ◌≤◌}
-use borrow.Author.Rules.{rules}
 use Rattle.kinds.specs.Has.{has}
 use Rattle.profile.specs.Entry.{aligned, offset_bits, most_table_code, code_bits, most_levels}
 use Rattle.profile.specs.Walk.{walk_from}
-use Rattle.dma_walk.proofs.LoopLaws as loop
-use Rattle.dma_walk.proofs.TouchLaws as laws
 use Rattle.dma_walk.proofs.touch.reads_word.Given as goal
 
 abbrev pub invariant-loop-below : goal.invariant-loop-below

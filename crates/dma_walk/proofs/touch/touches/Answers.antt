@@ -1,6 +1,5 @@
 -- `dma_walk::touch::touches` meets its contract. Assumes nothing.
 use Rattle.dma_walk.proofs.TouchLaws as laws
-use borrow.Author.Rules.{rules}
 use Rattle.dma_walk.proofs.TranslateLaws.{page-shaped}
 use Rattle.dma_walk.proofs.touch.touches.Goals as goal
 

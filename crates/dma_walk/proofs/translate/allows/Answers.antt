@@ -1,7 +1,6 @@
 -- `dma_walk::translate::allows` meets its contract. Assumes nothing.
 use Rattle.profile.specs.Walk.{allows}
 use Rattle.dma_walk.proofs.TranslateLaws as laws
-use borrow.Author.Rules.{rules}
 use Rattle.dma_walk.proofs.translate.allows.Goals as goal
 
 pub returns-in-Read : goal.returns-in-Read

@@ -1,7 +1,6 @@
 -- `dma_walk::translate::land` meets its contract. Assumes nothing.
 use Rattle.profile.specs.Walk.{landed}
 use Rattle.dma_walk.proofs.TranslateLaws as laws
-use borrow.Author.Rules.{rules}
 use Rattle.dma_walk.proofs.translate.land.Goals as goal
 
 pub returns-in-Forbidden : goal.returns-in-Forbidden

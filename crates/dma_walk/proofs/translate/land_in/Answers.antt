@@ -1,6 +1,5 @@
 -- `dma_walk::translate::land_in` meets its contract. Assumes nothing.
 use Rattle.dma_walk.proofs.TranslateLaws as laws
-use borrow.Author.Rules.{rules}
 use Rattle.dma_walk.proofs.translate.land_in.Goals as goal
 
 pub returns-then-allows : goal.returns-then-allows

@@ -1,6 +1,5 @@
 -- `dma_walk::translate::translate` meets its contract. Assumes nothing.
 use Rattle.dma_walk.proofs.TranslateLaws as laws
-use borrow.Author.Rules.{rules}
 use Rattle.dma_walk.proofs.translate.translate.Goals as goal
 
 pub returns : goal.returns

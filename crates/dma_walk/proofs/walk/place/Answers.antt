@@ -1,6 +1,5 @@
 -- `dma_walk::walk::place` meets its contract. Assumes nothing.
 use Rattle.dma_walk.proofs.StepLaws as laws
-use borrow.Author.Rules.{rules}
 use Rattle.dma_walk.proofs.walk.place.Goals as goal
 
 pub returns : goal.returns

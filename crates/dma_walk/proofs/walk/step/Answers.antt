@@ -1,6 +1,5 @@
 -- `dma_walk::walk::step` meets its contract. Assumes nothing.
 use Rattle.dma_walk.proofs.StepLaws as laws
-use borrow.Author.Rules.{rules}
 use Rattle.dma_walk.proofs.walk.step.Goals as goal
 
 pub word_address-requires : goal.word_address-requires

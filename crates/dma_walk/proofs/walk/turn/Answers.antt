@@ -1,6 +1,5 @@
 -- `dma_walk::walk::turn` meets its contract. Assumes nothing.
 use Rattle.dma_walk.proofs.StepLaws as laws
-use borrow.Author.Rules.{rules}
 use Rattle.dma_walk.proofs.walk.turn.Goals as goal
 
 pub returns-then-below-eq0 : goal.returns-then-below-eq0

@@ -1,12 +1,6 @@
 -- `dma_walk::walk::walk` meets its contract. The invariant: the walk from the top is the walk of the levels that are left, after the words read
 -- so far. The measure is the number of levels that are left. Assumes nothing.
-use mathlib.Core.Path.{◌≡◌}
-use mathlib.Core.Bool.{true}
-use Prim.Native.Nat.{◌+◌, ◌*◌, ◌≤◌}
 use borrow.Author.Rules.{rules}
-use Rattle.profile.specs.Entry.{aligned, offset_bits, most_table_code, code_bits, most_levels}
-use Rattle.profile.specs.Walk.{walk_from}
-use Rattle.dma_walk.specs.Turn.{counted}
 use Rattle.dma_walk.proofs.LoopLaws.{later}
 use Rattle.dma_walk.proofs.LoopLaws as laws
 use Rattle.dma_walk.proofs.walk.walk.Goals as goal

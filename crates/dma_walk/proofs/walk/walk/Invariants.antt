@@ -1,12 +1,10 @@
 use mathlib.Core.Path.{◌≡◌}
 use mathlib.Core.Bool.{true}
 use Prim.Native.Nat.{◌+◌, ◌*◌, ◌≤◌}
-use borrow.Author.Rules.{rules}
 use Rattle.profile.specs.Entry.{aligned, offset_bits, most_table_code, code_bits, most_levels}
 use Rattle.profile.specs.Walk.{walk_from}
 use Rattle.dma_walk.specs.Turn.{counted}
 use Rattle.dma_walk.proofs.LoopLaws.{later}
-use Rattle.dma_walk.proofs.LoopLaws as laws
 use Rattle.dma_walk.proofs.walk.walk.Given as goal
 
 abbrev pub invariant-loop-below : goal.invariant-loop-below

@@ -1,6 +1,5 @@
 -- `dma_walk::walk::walk_page` meets its contract. Assumes nothing.
 use Rattle.dma_walk.proofs.TranslateLaws as laws
-use borrow.Author.Rules.{rules}
 use Rattle.dma_walk.proofs.walk.walk_page.Goals as goal
 
 pub walk-requires : goal.walk-requires

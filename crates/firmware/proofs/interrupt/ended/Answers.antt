@@ -1,7 +1,6 @@
 -- `firmware::interrupt::ended` meets its contract. Assumes nothing.
 use Rattle.profile.specs.Firmware.{ends}
 use Rattle.kinds.proofs.Tests.{tests}
-use borrow.Author.Rules.{rules}
 use Rattle.firmware.proofs.interrupt.ended.Goals as goal
 
 pub returns-then-bits-lt-P : goal.returns-then-bits-lt-P

@@ -1,7 +1,6 @@
 -- `firmware::interrupt::prioritized` meets its contract. Assumes nothing.
 use Rattle.profile.specs.Firmware.{prioritized}
 use Rattle.kinds.proofs.Tests.{tests}
-use borrow.Author.Rules.{rules}
 use Rattle.firmware.proofs.interrupt.prioritized.Goals as goal
 
 pub returns-then-next-eq-HOLDING : goal.returns-then-next-eq-HOLDING

@@ -1,7 +1,5 @@
 -- `mmio_windows::open_windows::is_placed` meets its contract. Assumes nothing.
-use lib.Bits.{and_le_l}
 use Rattle.mmio_windows.proofs.OpenLaws as laws
-use Rattle.std.proofs.Common.{rules}
 use Rattle.mmio_windows.proofs.open_windows.is_placed.Goals as goal
 
 pub returns-then-place-below : goal.returns-then-place-below

@@ -1,6 +1,5 @@
 -- `mmio_windows::open_windows::is_power` meets its contract. Assumes nothing.
 use Rattle.mmio_windows.proofs.Powers as powers
-use Rattle.std.proofs.Common.{rules}
 use Rattle.mmio_windows.proofs.open_windows.is_power.Goals as goal
 
 pub returns-then-bits-least : goal.returns-then-bits-least

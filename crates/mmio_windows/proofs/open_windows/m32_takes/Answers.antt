@@ -1,6 +1,5 @@
 -- `mmio_windows::open_windows::m32_takes` meets its contract. Assumes nothing.
 use Rattle.mmio_windows.proofs.OpenLaws as laws
-use Rattle.std.proofs.Common.{rules}
 use Rattle.mmio_windows.proofs.open_windows.m32_takes.Goals as goal
 
 pub is_multiple-requires : goal.is_multiple-requires

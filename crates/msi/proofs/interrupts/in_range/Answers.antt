@@ -1,7 +1,6 @@
 -- `msi::interrupts::in_range` meets its contract. Assumes nothing.
 use Rattle.profile.specs.Msi.{ranged}
 use Rattle.kinds.proofs.Tests.{tests}
-use borrow.Author.Rules.{rules}
 use Rattle.msi.proofs.interrupts.in_range.Goals as goal
 
 pub returns-then-interrupt-le-HOLDING : goal.returns-then-interrupt-le-HOLDING

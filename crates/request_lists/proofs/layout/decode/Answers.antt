@@ -1,5 +1,4 @@
 -- `request_lists::layout::decode` meets its contract. Assumes nothing.
-use borrow.Author.Rules.{rules}
 use Rattle.kinds.proofs.Tests.{tests}
 use Rattle.request_words.specs.Layout.{decoded}
 use Rattle.request_lists.proofs.layout.decode.Goals as goal

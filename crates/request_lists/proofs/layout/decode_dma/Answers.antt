@@ -1,5 +1,4 @@
 -- `request_lists::layout::decode_dma` meets its contract. Assumes nothing.
-use borrow.Author.Rules.{rules}
 use Rattle.kinds.proofs.Tests.{tests}
 use Rattle.request_lists.proofs.DecodeLaws as laws
 use Rattle.request_words.specs.Layout.{decoded_dma}

@@ -1,5 +1,4 @@
 -- `request_lists::word_lists::request_at` meets its contract. Assumes nothing.
-use borrow.Author.Rules.{rules}
 use Rattle.request_lists.proofs.ListLaws as laws
 use Rattle.request_lists.proofs.word_lists.request_at.Goals as goal
 

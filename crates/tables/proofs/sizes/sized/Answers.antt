@@ -1,6 +1,5 @@
 -- `tables::sizes::sized` meets its contract. Assumes nothing.
 use Rattle.tables.proofs.SizeLaws as laws
-use borrow.Author.Rules.{rules}
 use Rattle.tables.proofs.sizes.sized.Goals as goal
 
 pub returns-then-dma_tables : goal.returns-then-dma_tables

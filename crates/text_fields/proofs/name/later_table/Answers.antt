@@ -2,7 +2,6 @@
 use Rattle.replay_text.specs.Field.{is}
 use Rattle.text_fields.proofs.NameInLaws as laws
 use Rattle.text_fields.specs.Reading.{place_from}
-use borrow.Author.Rules.{rules}
 use Rattle.text_fields.proofs.name.later_table.Goals as goal
 
 pub returns-then-same : goal.returns-then-same

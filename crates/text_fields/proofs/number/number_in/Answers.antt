@@ -1,10 +1,6 @@
 -- `text_fields::number::number_in` meets its contract. Assumes nothing.
-use mathlib.Core.Path.{◌≡◌}
-use Prim.Native.Nat.{◌-◌, ◌*◌, ◌^◌, ◌≤◌, ◌<◌}
-use lib.ListN.{length, drop}
 use borrow.Author.Rules.{rules}
 use Rattle.text_fields.proofs.NumberInLaws as laws
-use Rattle.replay_text.specs.Field.{number_of, number_from}
 use Rattle.text_fields.proofs.number.number_in.Goals as goal
 
 pub returns-then-text-lt1 : goal.returns-then-text-lt1

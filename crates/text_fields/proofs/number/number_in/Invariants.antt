@@ -1,8 +1,6 @@
 use mathlib.Core.Path.{◌≡◌}
 use Prim.Native.Nat.{◌-◌, ◌*◌, ◌^◌, ◌≤◌, ◌<◌}
 use lib.ListN.{length, drop}
-use borrow.Author.Rules.{rules}
-use Rattle.text_fields.proofs.NumberInLaws as laws
 use Rattle.replay_text.specs.Field.{number_of, number_from}
 use Rattle.text_fields.proofs.number.number_in.Given as goal
 

@@ -1,9 +1,6 @@
-use mathlib.Core.Path.{◌≡◌, sym}
+use mathlib.Core.Path.{◌≡◌}
 use Prim.Native.Nat.{◌+◌, ◌-◌, ◌≤◌}
 use lib.ListN.{length, drop}
-use borrow.Author.Rules.{rules}
-use Rattle.text_fields.proofs.ByteLaws as laws
-use native.Mathlib.Nat.{zero-add}
 use Rattle.text_fields.specs.Place.{cut_of}
 use Rattle.text_fields.proofs.place.cut.Given as goal
 

@@ -1,6 +1,5 @@
 -- `text_fields::place::first` meets its contract. Assumes nothing.
 use Rattle.text_fields.proofs.ByteLaws as laws
-use borrow.Author.Rules.{rules}
 use Rattle.text_fields.proofs.place.first.Goals as goal
 
 pub returns : goal.returns

@@ -1,10 +1,6 @@
 -- `text_fields::place::same` meets its contract. Assumes nothing.
-use mathlib.Core.Path.{◌≡◌}
-use Prim.Native.Nat.{◌-◌, ◌≤◌}
-use lib.ListN.{length, drop}
 use borrow.Author.Rules.{rules}
 use Rattle.text_fields.proofs.ByteLaws as laws
-use Rattle.replay_text.specs.Field.{is}
 use Rattle.text_fields.proofs.place.same.Goals as goal
 
 pub returns-then-a-b : goal.returns-then-a-b

@@ -1,8 +1,6 @@
 use mathlib.Core.Path.{◌≡◌}
 use Prim.Native.Nat.{◌-◌, ◌≤◌}
 use lib.ListN.{length, drop}
-use borrow.Author.Rules.{rules}
-use Rattle.text_fields.proofs.ByteLaws as laws
 use Rattle.replay_text.specs.Field.{is}
 use Rattle.text_fields.proofs.place.same.Given as goal
 

@@ -1,10 +1,6 @@
 -- `text_report::digits::places` meets its contract. Assumes nothing.
-use mathlib.Core.Path.{◌≡◌}
-use Prim.Native.Nat.{◌+◌, ◌-◌, ◌≤◌}
 use borrow.Author.Rules.{rules}
 use Rattle.text_report.proofs.DigitLaws as laws
-use native.Mathlib.Nat.{add_comm}
-use Rattle.replay_text.specs.Digits.{places, places_from}
 use Rattle.text_report.proofs.digits.places.Goals as goal
 
 pub returns-then-rest-lt10 : goal.returns-then-rest-lt10

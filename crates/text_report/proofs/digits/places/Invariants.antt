@@ -1,8 +1,5 @@
 use mathlib.Core.Path.{◌≡◌}
 use Prim.Native.Nat.{◌+◌, ◌-◌, ◌≤◌}
-use borrow.Author.Rules.{rules}
-use Rattle.text_report.proofs.DigitLaws as laws
-use native.Mathlib.Nat.{add_comm}
 use Rattle.replay_text.specs.Digits.{places, places_from}
 use Rattle.text_report.proofs.digits.places.Given as goal
 

@@ -1,12 +1,8 @@
 -- `text_report::digits::put_digits` meets its contract. Assumes nothing.
-use mathlib.Core.Path.{◌≡◌}
-use Prim.Native.Nat.{◌-◌, ◌≤◌}
-use lib.ListN.{length, length-set}
-use lib.Seq.{sets}
+use lib.ListN.{length-set}
 use borrow.Author.Rules.{rules}
 use native.Mathlib.Omega.{arith}
 use Rattle.text_report.proofs.DigitLaws as laws
-use Rattle.replay_text.specs.Digits.{digits}
 use Rattle.text_report.proofs.digits.put_digits.Goals as goal
 
 pub loop-i-preserved : goal.loop-i-preserved
