@@ -1,5 +1,5 @@
 -- A part of a list, served by the loop of both bridges.
---     cachedState m t i c l   memory m, state t, interrupts i, cache c and answer words l
+--     cached_state m t i c l  memory m, state t, interrupts i, cache c and answer words l
 --     Stretched b f w n r k j y   of the request words w those from k on were served on r up to j, which is n or, with a cache (b), that of an edit or an invalidate; y
 --                             is what they left
 --     Maintained f w r k j y  with a cache, operation k of the request words w was served on r if it is an edit or an invalidate, and j is the next one

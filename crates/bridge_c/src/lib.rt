@@ -30,7 +30,22 @@ pub extern "C" fn celltimber_run(
 ) -> usize
     ensures { RanAll (tables (record { pes = pes; interrupts = interrupt_count; requesters = requester_count }) installed requesters.now entries.now peers.now windows.now segments.now) memory.now requests.now (live state.old interrupts.old) answers.old result (live state.new interrupts.new) answers.new }
 {
-    export::celltimber_run(pes, interrupt_count, requester_count, installed, requesters, entries, memory, peers, interrupts, windows, segments, state, requests, answers)
+    export::celltimber_run(
+        pes,
+        interrupt_count,
+        requester_count,
+        installed,
+        requesters,
+        entries,
+        memory,
+        peers,
+        interrupts,
+        windows,
+        segments,
+        state,
+        requests,
+        answers,
+    )
 }
 
 // The same with a translation cache: memory and cache are lent to be written, and lists have edits and invalidates too. A sequence starts with the invalidate for
@@ -55,5 +70,21 @@ pub extern "C" fn celltimber_cached_run(
 ) -> usize
     ensures { RanCached (tables (record { pes = pes; interrupts = interrupt_count; requesters = requester_count }) installed requesters.now entries.now peers.now windows.now segments.now) requests.now (lent memory.old state.old interrupts.old cache.old) answers.old result (lent memory.new state.new interrupts.new cache.new) answers.new }
 {
-    export::celltimber_cached_run(pes, interrupt_count, requester_count, installed, requesters, entries, memory, peers, interrupts, windows, segments, state, cache, requests, answers)
+    export::celltimber_cached_run(
+        pes,
+        interrupt_count,
+        requester_count,
+        installed,
+        requesters,
+        entries,
+        memory,
+        peers,
+        interrupts,
+        windows,
+        segments,
+        state,
+        cache,
+        requests,
+        answers,
+    )
 }

@@ -1,10 +1,10 @@
 -- The bridge with a cache answers as the bridge without one, once the cache is right.
 --     Right f m ..        the words of a full slot are right: they name an entry with a page table, and the walk of that page finds the word now
 --     Sound f m c         THE INVARIANT: the cache has its length, and each full slot is right
---     looked-same         a hit is answered as the walk would be, its count too; hit-word: its word is the one that the walk finds
+--     looked-same         a hit is answered as the walk would be, its count too; hit_word: its word is the one that the walk finds
 --     sweep_sound         any sweep keeps the invariant, over any memory in which the walks of the pages that stay are the same
---     edit-sound          so an edit that drops what goes through its word does
---     filled-sound        and a fill; emptied-sound: a cache of the right length that is emptied is sound, whatever it held
+--     edit_sound          so an edit that drops what goes through its word does
+--     filled_sound        and a fill; emptied_sound: a cache of the right length that is emptied is sound, whatever it held
 --     Fine f x            the invariant, of a bridge with its cache
 --     runs                THE SIMULATION: the bridge with a cache runs as the one without
 --     Known f x, checked-known    a walk is of a PE below N, by the entry of it that the address picks, which has a page table

@@ -1,7 +1,7 @@
 -- What slots hold, in numbers, on the bridge of the cases.
---     latest-hold         the last of some words, or those before
+--     latest_hold         the last of some words, or those before
 --     list                on an empty cache: a fill, a hit, an edit that drops, no fill under 8, a fill, an invalidate, a fill of another slot, a fill
---     events-hold         what it does to slots 151, 77 and 150; slots-left: what they hold then
+--     events_hold         what it does to slots 151, 77 and 150; slots-left: what they hold then
 --     pass-witness        THE CLAIM at a miss and at a hit that pass: what the whole cache is then; drop-witness: at an invalidate; slots-witness: at the list
 --     after_same          what an edit drops could be asked of memory after it as well
 -- Assumes nothing.

@@ -1,6 +1,6 @@
 -- What a slot holds, from what each operation leaves.
 --     contents            THE THEOREM
---     used-found          where the cache is sound, the word that is used is the one that the walk finds
+--     used_found          where the cache is sound, the word that is used is the one that the walk finds
 -- Assumes nothing.
 use Rattle.std.specs.Prelude.{◌≡◌, Bool, cond, ◌&&◌, List, [], ◌∷◌, ℕ, ◌+◌, ◌*◌, ◌<◌, ltb, eqb}
 use Rattle.std.proofs.Math.Path.{refl}

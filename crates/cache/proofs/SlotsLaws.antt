@@ -1,8 +1,8 @@
 -- The words of the cache after a fill and after a sweep, over any contents.
---     put-tag .. put_word the words of the slot that was filled; put-away: the words of the others; length-put
+--     put_tag .. put_word the words of the slot that was filled; put-away: the words of the others; length_put
 --     put_holds           it then holds the page; put_same: a slot that holds a page with its word is not changed by a fill of it
 --     slot-low, slot-each the rule gives a slot, and can give each of them
---     at-sweep            a word after a sweep; gone, kept: of a slot that was dropped, or not; length-sweep
+--     at-sweep            a word after a sweep; gone, kept: of a slot that was dropped, or not; length_sweep
 --     swept               A SWEEP LEAVES NOTHING that its test names
 -- Assumes nothing.
 use Rattle.std.specs.Prelude.{◌≡◌, ◌≢◌, true, false, cond, ◌&&◌, List, ℕ, ◌+◌, ◌*◌, ◌/◌, ◌%◌, ◌<◌, ltb, eqb, length, set}

@@ -1,19 +1,19 @@
 -- 02, [8]: the bridge with a translation cache, over any contents of it. It is the step of the bridge with another finish.
---     slotFor, pageFor, word_for   the slot, the page and the word in that slot, for a DMA of PE p by entry e
---     isHit c p e q       a hit whose word permits the DMA: the slot that the rule chooses holds the page, and its word allows the direction
---     foundBy i p e q x n what a DMA comes to by what was found (x) and the count n, without memory; i is the installed size
+--     slot_for, page_for, word_for  the slot, the page and the word in that slot, for a DMA of PE p by entry e
+--     is_hit c p e q      a hit whose word permits the DMA: the slot that the rule chooses holds the page, and its word allows the direction
+--     found_by i p e q x n what a DMA comes to by what was found (x) and the count n, without memory; i is the installed size
 --     looked i c x        WITH A CACHE ALL CHECKS END HERE: in the place of a walk that is a hit stands its outcome, told from the slot's word with the count of
 --                         the record's levels. No memory is read
---     cachedFinish i m c x    what is left: as without a cache, where the checks and the cache leave a walk
+--     cached_finish i m c x   what is left: as without a cache, where the checks and the cache leave a walk
 --     content x           the word that a walk found
 --     filled i m c x      the cache after that: where a walk passes, the slot of its page holds PE, half, page and word; else it stays
 --     tagged t            the PE of tag t; tabled f t h: tag and half name an entry with a page table
 --     through f m k       what an edit of word k drops: the walk of the slot's page reads it, in memory as it is before the edit
 --     names f x           what an invalidate of scope x names: all, a PE, or the page around an address, by the record that bit 59 picks
 --     Cached              the bridge with its cache; fit f x: not reason 1, the length of the cache included
---     cacheBy ok f x q    the cache after operation q; ok: reason 1 does not hold
---     cachedAnswer, cachedAfter   what an operation is answered, and what it leaves
---     cachedMachine G f   the machine of these
+--     cache_by ok f x q   the cache after operation q; ok: reason 1 does not hold
+--     cached_answer, cached_after  what an operation is answered, and what it leaves
+--     cached_machine G f  the machine of these
 -- Assumes nothing.
 use Rattle.std.specs.Prelude.{Bool, true, false, cond, ◌&&◌, List, ℕ, ◌+◌, ◌-◌, ltb, eqb, length}
 use Rattle.kinds.specs.Checked.{Checked, Kept, Ready, Walk, Fences}

@@ -1,10 +1,10 @@
 -- 02, [8]: WHAT A SLOT HOLDS, over any contents of the cache.
 --     slot_at c j          the four words of slot j
---     wordUsed m c p e q  the last-level word by which a DMA is answered: the slot's on a hit, else the one that the walk finds
+--     word_used m c p e q  the last-level word by which a DMA is answered: the slot's on a hit, else the one that the walk finds
 --     passes f x p e q    a DMA whose page table is asked for passes
---     fillAt f x j y      the words that slot j gets by what the checks y of a request leave, if it gets any
---     slotEvent f j x q   what operation q does to slot j: the words that it gets. A fill, or four zeros where an edit or an invalidate drops it
---     slotEvents f x j l  these of a list of operations, in order, each by the state that it meets; latest w l: the last of l, or w where there is none
+--     fill_at f x j y     the words that slot j gets by what the checks y of a request leave, if it gets any
+--     slot_event f j x q  what operation q does to slot j: the words that it gets. A fill, or four zeros where an edit or an invalidate drops it
+--     slot_events f x j l  these of a list of operations, in order, each by the state that it meets; latest w l: the last of l, or w where there is none
 --     Contents            THE CLAIM, as a type that a promise can cite
 -- Assumes nothing.
 use Rattle.std.specs.Prelude.{◌≡◌, Bool, true, false, cond, ◌&&◌, List, [], ◌∷◌, ℕ, ◌+◌, eqb}

@@ -1,6 +1,6 @@
 -- 02, [8]: the translation cache, a lent table: its slots, and what is done to them. Everything here is over any contents.
---     slotCount, slotWords, cacheWords    256 slots of four words: PE + 1 (0: the slot is empty), half, page number, last-level word
---     slotFactor          37, which keeps the slots of neighbouring PEs apart
+--     slot_count, slot_words, cache_words  256 slots of four words: PE + 1 (0: the slot is empty), half, page number, last-level word
+--     slot_factor         37, which keeps the slots of neighbouring PEs apart
 --     slot_of p h q        THE RULE: the slot of page q of half h of PE p
 --     tag_of c i ..        the four words of slot i: tag, half, page, word
 --     holds c i p h q     slot i holds this page

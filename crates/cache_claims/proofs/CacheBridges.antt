@@ -4,13 +4,13 @@
 --     words x             the private words of a bridge of `Bridges.bridge`: PEs 0 and 3 have one level, for x = 1 with pages of 4 KiB, for x = 2 of 64 KiB
 --     first, second       the two bridges: of `words 1` and of `words 2`; held x: a cache full of x, before it is emptied
 --     ask a               PE 2 reads at address a
---     list, other         two lists whose operations with a place are the same: listBefore, otherBefore up to the group's edit; listAfter, otherAfter from it on
+--     list, other         two lists whose operations with a place are the same: list_before, other_before up to the group's edit; list_after, other_after from it on
 --     Answered            what the claim says of two bridges, two caches and two lists
---     upperBelow b n m    of the first n words of memory m each one that leads on leads to a table that ends at word b or before
+--     upper_below b n m   of the first n words of memory m each one that leads on leads to a table that ends at word b or before
 --     away b k m          so all words that the group's walks read are below b, and k is not
---     reads-bound         THE BOUND on what the group's walks read, by that test
+--     reads_bound         THE BOUND on what the group's walks read, by that test
 --     free-word, own-word an edit of word k is free; it is the group's, since PE 2's walk for some address reads the word
---     sameBelow b m n     memories m and n have the same first b words
+--     same_below b m n    memories m and n have the same first b words
 --     fresh-words         what an edit brings into reach is equal, if all below a bound is
 --     opened-pair         the names that a computation on them opens
 -- Assumes nothing.

@@ -4,7 +4,7 @@
 --     needed              THE STATEMENT: there is one for each premise
 --     Rule, AnsweredBy    another rule of whose an operation is, and the claim by it
 --     now-enough          the claim holds where edits are asked for in memory as it is at that moment
---     never-fails         it does not where every edit is free: the group's edits could be left out in one list
+--     never_fails         it does not where every edit is free: the group's edits could be left out in one list
 --     start-fails         nor where they are asked for in memory as it was at the start
 -- Assumes nothing.
 use Rattle.std.specs.Prelude.{◌≡◌, refl, Bool, true, false, List, [], ◌∷◌, ℕ, ◌+◌, eqb, length, replicate}

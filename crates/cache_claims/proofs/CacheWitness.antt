@@ -8,7 +8,7 @@
 --     list-answers, other-answers     what each operation of the two lists is answered: PE 0's DMAs pass to different addresses
 --     group-answers       what the group is answered: by miss, by hit, after its slot was taken, and through the table that its edit brought into reach
 --     slot-taken          what happens to the slot of PE 2's page in both
---     starts-differ       the bridges differ at the start, in a word that is in reach later too; ends-differ: memories and caches differ in the end
+--     starts_differ       the bridges differ at the start, in a word that is in reach later too; ends_differ: memories and caches differ in the end
 --     witness             THE CLAIM at these
 -- Assumes nothing.
 use Rattle.std.specs.Prelude.{◌≡◌, refl, Bool, true, false, cond, ◌&&◌, List, [], ◌∷◌, ◌++◌, map, ℕ, set}

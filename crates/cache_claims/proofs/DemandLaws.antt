@@ -1,6 +1,6 @@
 -- The claims about the bridge with a translation cache.
 --     stuck               where reason 1 holds, the length of the cache included, nothing changes; answer-one: every answer is 1
---     simulation, cached-isolation    THE THEOREMS
+--     simulation, cached_isolation    THE THEOREMS
 -- Assumes nothing.
 use Rattle.std.specs.Prelude.{◌≡◌, Bool, true, false, List, ℕ, eqb, length}
 use Rattle.std.proofs.Math.Path.{refl, ap}

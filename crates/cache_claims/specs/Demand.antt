@@ -1,5 +1,5 @@
 -- 02, [8]: THE CLAIMS about the bridge with a translation cache, over sequences that start by emptying it.
---     bareOf a            bridge a with memory among what is written; lent a c: with cache c, of any contents
+--     bare_of a           bridge a with memory among what is written; lent a c: with cache c, of any contents
 --     begun a c           the same after the first operation of a sequence: the invalidate for all
 --     left a c l          what a sequence leaves; fence a c l: the fence word then
 --     places G a c l      what the operations l of a sequence are compared by, in order: the group's own ones, whole, and the fatal messages and fence clears of

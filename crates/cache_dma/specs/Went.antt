@@ -1,6 +1,6 @@
 -- What a function comes to, together with the cache that it leaves.
 --     Went r k o c        it came to r and left the cache k: they are o and c
---     eitherFilled b i m c x  the cache after what is left of a check x: with a cache (b) it may be filled
+--     either_filled b i m c x  the cache after what is left of a check x: with a cache (b) it may be filled
 -- Assumes nothing.
 use Rattle.std.specs.Prelude.{◌≡◌, Bool, true, false, List, ℕ}
 use Rattle.kinds.specs.Checked.{Checked}

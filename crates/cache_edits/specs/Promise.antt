@@ -1,6 +1,6 @@
 -- What an edit and an invalidate promise, on any tables of which reason 1 does not hold.
 --     Edited n e m c k v r m' c'      after an edit of word k to v, with N = n, entries e, memory m and cache c: answer r, memory m', cache c'
---     scopeDrops e x      what an invalidate of scope x empties
+--     scope_drops e x     what an invalidate of scope x empties
 --     Invalidated n e c x r c'        after an invalidate of scope x: answer r, cache c'
 -- Assumes nothing.
 use Rattle.std.specs.Prelude.{◌≡◌, true, cond, List, [], ℕ, ltb, length, set}

@@ -1,8 +1,8 @@
 -- The checks and their finish, as the code has them, are the definition's, with a cache and without one.
---     finished-by, filled-by  the outcome and the cache, of every check
+--     finished_by_lem, filled_by_lem  the outcome and the cache, of every check
 --     looked-pe, looked-kept  the PE of a check, and one that is answered, are the same after the cache was looked at
 --     looked-placed       a check after the cache was looked at still names the owner
---     kept-fill           a request that is answered by the checks alone fills no slot
+--     kept_fill           a request that is answered by the checks alone fills no slot
 --     either-is           what the checks and their finish come to is what the bridge with a cache, or the one without, answers and leaves
 -- Assumes nothing.
 use Rattle.std.specs.Prelude.{◌≡◌, Bool, true, false, List, ℕ, length}

@@ -1,9 +1,9 @@
 -- The lent slices of the bridge with a cache, and the checks and their finish as the code has them: with a cache or without one, which a flag b says.
 --     lent m t i c        memory m, state t, interrupts i and cache c
---     eitherSized b n ok  not reason 1: ok says it of the other tables, n is the length of the cache
---     eitherLooked b i c x    the checks x after the cache c was looked at, with a cache
---     quickAt b i c k     what the cache says of the check k; lookedUp b i c k: both
---     finishedBy i m k q  the outcome by the check k and what the cache says; filledBy b i m c k q: the cache after that
+--     either_sized b n ok  not reason 1: ok says it of the other tables, n is the length of the cache
+--     either_looked b i c x   the checks x after the cache c was looked at, with a cache
+--     quick_at b i c k    what the cache says of the check k; looked_up b i c k: both
+--     finished_by i m k q  the outcome by the check k and what the cache says; filled_by b i m c k q: the cache after that
 -- Assumes nothing.
 use Rattle.std.specs.Prelude.{Bool, true, false, cond, ◌&&◌, List, ℕ, eqb}
 use Rattle.kinds.specs.Checked.{Checked, Walk}

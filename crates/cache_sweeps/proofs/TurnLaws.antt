@@ -1,5 +1,5 @@
 -- The turns of a sweep.
---     length-turned       the cache keeps its length
+--     length_turned       the cache keeps its length
 --     turns-is            turns for all slots are the sweep
 -- Assumes nothing.
 use Rattle.std.specs.Prelude.{◌≡◌, Bool, true, cond, ◌&&◌, List, ℕ, ◌+◌, ◌*◌, ◌/◌, ◌%◌, ◌≤◌, ltb, eqb, length}

@@ -1,5 +1,5 @@
 -- A run over words is the run of the operations that the words name.
---     cached-run-of       THE THEOREM
+--     cached_run_of       THE THEOREM
 -- Assumes nothing.
 use Rattle.request_words.specs.Run.{served}
 use Rattle.request_words.proofs.RunLaws.{room, ran_on-live, ran_on-answers}

@@ -14,7 +14,6 @@ use Rattle.edits.specs.Edits.{bare_answer, bare_after}
 use Rattle.cache.specs.Cache.{Cached, cached_answer, cached_after}
 use Rattle.cache_words.specs.Operations.{plain_of, operation_at}
 use Rattle.cache_words.proofs.OperationsLaws.{plain_of_lem}
-
 use Rattle.cache_words.specs.Either.{either_after, either_answer, either_span, ran_on-span, span, span-one, span_none}
 
 module _ (f : Tables) (m w c : List ℕ) (s : Live) (l : List ℕ) where

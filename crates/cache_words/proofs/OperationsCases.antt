@@ -1,9 +1,9 @@
 -- Words of operations, and what they name.
---     names-hold          kinds 9 and 10 with each scope, a scope above 2, and kinds that name a request or nothing
---     words-hold          the words of an edit and of each invalidate
---     kinds-hold          which kinds the bridge with a cache alone has
---     lists-hold          of a list of words that ends early
---     plain-hold          what these are to the bridge without a cache; maintained-hold: a request is no edit and no invalidate
+--     names_hold          kinds 9 and 10 with each scope, a scope above 2, and kinds that name a request or nothing
+--     words_hold          the words of an edit and of each invalidate
+--     kinds_hold          which kinds the bridge with a cache alone has
+--     lists_hold          of a list of words that ends early
+--     plain_hold          what these are to the bridge without a cache; maintained_hold: a request is no edit and no invalidate
 -- Assumes nothing.
 use Rattle.std.specs.Prelude.{◌≡◌, refl, Bool, true, false, List, [], ◌∷◌, map, ℕ}
 use Rattle.kinds.specs.declared.request.Operation.{Operation}

@@ -14,7 +14,6 @@ use Rattle.kinds.specs.declared.request.Scope.TheVariants as scope
 use Rattle.request_words.proofs.EncodedLaws.{decoded-encoded}
 use Rattle.request_words.specs.Layout.{request_words, encoded, decoded, decoded_from, decoded_at, Brought}
 use Rattle.cache_words.specs.Operations.{edit_kind, invalidate_kind, encoded_operation, decoded_invalidate, decoded_operation, of_cache, plain_of, maintained, operation_from, operation_at, operation_in, of_cache_in}
-
 use Rattle.cache_words.specs.OperationsLaws.{Sendable}
 
 pub operation_in_lem : (l : List ℕ) (k : ℕ) → k * request_words + request_words ≤ length l → operation_in l k ≡ operation_at l k

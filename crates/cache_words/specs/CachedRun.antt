@@ -1,6 +1,6 @@
 -- A list of operations as words, on the bridge with a translation cache.
---     cachedRanTo f w x l n   after the first n operations that the request words w name, each on the tables as the last one left them; l are the answer words
---     cachedAnswers f x l what the operations of list l, not as words, are answered
+--     cached_ran_to f w x l n  after the first n operations that the request words w name, each on the tables as the last one left them; l are the answer words
+--     cached_answers f x l what the operations of list l, not as words, are answered
 --     CachedRunOf         THE CLAIM: a run over words is the run of the operations that they name
 -- Assumes nothing.
 use Rattle.std.specs.Prelude.{◌≡◌, List, ◌++◌, ℕ, ◌*◌, length}

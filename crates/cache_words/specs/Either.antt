@@ -1,8 +1,8 @@
 -- Lists of operations on the bridge with a cache or without one: one loop serves both.
---     eitherAnswer, eitherAfter   what an operation is answered and leaves; to the bridge without a cache an edit and an invalidate are words of no request, and
+--     either_answer, either_after  what an operation is answered and leaves; to the bridge without a cache an edit and an invalidate are words of no request, and
 --                         the cache is not looked at
 --     span .. r k n       on any machine, n requests from request k on, served on r
---     span_none, span-one no request, and one more; ranOn-span: after the first k requests
+--     span_none, span-one no request, and one more; ran_on-span: after the first k requests
 --     bare-span           a span on the bridge without a cache is that of its own run
 -- Assumes nothing.
 use Rattle.std.specs.Prelude.{◌≡◌, Bool, true, false, List}

@@ -1,13 +1,13 @@
 -- Operations on the bridge with a translation cache as words, 8 for each. Kinds 0 to 8 are the requests of the bridge.
---     editKind, invalidateKind    9 edit: word number, value; 10 invalidate: scope (0 all, 1 PE, 2 address), PE, address
---     scopeWords x        scope, PE and address of an invalidate; encodedOperation q: the words of operation q. What it does not use is 0 and is not read
---     decodedInvalidate s p a     the invalidate that a scope, a PE and an address name; another scope names none
---     decodedOperation k a b c d e    the operation that the kind k and the numbers a to e name
---     ofCache k           kind k is of the bridge with a cache alone: an edit or an invalidate; ofCacheIn l k: that of operation k of the list of words l
+--     edit_kind, invalidate_kind  9 edit: word number, value; 10 invalidate: scope (0 all, 1 PE, 2 address), PE, address
+--     scope_words x       scope, PE and address of an invalidate; encoded_operation q: the words of operation q. What it does not use is 0 and is not read
+--     decoded_invalidate s p a    the invalidate that a scope, a PE and an address name; another scope names none
+--     decoded_operation k a b c d e   the operation that the kind k and the numbers a to e name
+--     of_cache k          kind k is of the bridge with a cache alone: an edit or an invalidate; of_cache_in l k: that of operation k of the list of words l
 --     plain_of q           what operation q is to the bridge without a cache: an edit and an invalidate are no request
 --     maintained q        an edit or an invalidate as it is; a request is none of them
---     operationFrom l i   the operation whose words stand from place i of the list of words l; operationAt l k: operation k; operationIn l k: none where its
---                         words are not all there; operationsFrom l k n: n of them, from operation k
+--     operation_from l i  the operation whose words stand from place i of the list of words l; operation_at l k: operation k; operation_in l k: none where its
+--                         words are not all there; operations_from l k n: n of them, from operation k
 -- Assumes nothing.
 use Rattle.std.specs.Prelude.{Bool, false, cond, ◌||◌, List, [], ◌∷◌, ℕ, ◌+◌, ◌*◌, ◌/◌, ltb, eqb, length}
 use Rattle.kinds.specs.Words.{at}

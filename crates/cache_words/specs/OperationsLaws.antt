@@ -1,7 +1,7 @@
 -- Decoding what was encoded, and requests of the bridge as operations.
 --     operation-back      THE LAW: the words of an operation, wherever they stand in a list, name it
---     operation-in        operation k of a list that has its words
---     plain-operation     words of the kinds of requests name the same request to both bridges; plain-of: words that name an edit or an invalidate to the bridge
+--     operation_in_lem    operation k of a list that has its words
+--     plain-operation     words of the kinds of requests name the same request to both bridges; plain_of_lem: words that name an edit or an invalidate to the bridge
 --                         with a cache name none to the one without; plain_at, maintained-at: in a list
 -- Assumes nothing.
 use Rattle.std.specs.Prelude.{◌≡◌, true, false, List, [], ◌∷◌, ◌++◌, ℕ, ◌+◌, ◌*◌, ◌/◌, ◌≤◌, eqb, length}

@@ -1,2 +1,2 @@
-// Operations on the bridge with a translation cache as words, and lists of them. The definition; all of it stands in specs/.
+// Operations on the bridge with a translation cache as words, and lists of them. The definition stands in specs/, its laws in proofs/.
 #![tactic(auto)]

@@ -1,6 +1,6 @@
 -- What `ask` is proved from where it is about the fence; b: the bridge is fenced.
 --     passed              a request on a bridge that is not
---     stopped, never-stopped  one of a kind that the fence stops, and of one that it lets pass
+--     stopped, never_stopped  one of a kind that the fence stops, and of one that it lets pass
 --     load-stopped        a load, whose all ones are those of its width
 -- Assumes nothing.
 use mathlib.Core.Path.{◌≡◌, ◌∙◌}

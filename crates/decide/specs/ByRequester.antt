@@ -1,7 +1,7 @@
 -- What a DMA and an error message come to, by the PE of their requester.
---     dmaOf c i e l t q p DMA q of PE p, as far as no memory is read: e are the translation entries, l the interrupts, c is M, i the installed size, t
+--     dma_of c i e l t q p DMA q of PE p, as far as no memory is read: e are the translation entries, l the interrupts, c is M, i the installed size, t
 --                         the state
---     messageOf r p       PE p is frozen with its peers, and the record has the requester r
+--     message_of r p      PE p is frozen with its peers, and the record has the requester r
 -- Assumes nothing.
 use Rattle.std.specs.Prelude.{true, List, ℕ}
 use Rattle.kinds.specs.Checked.{Checked, Ready}

@@ -1,5 +1,5 @@
 -- What a request comes to past the fence.
---     pastFence b q x     x, if the bridge is not fenced or the fence lets request q pass; else what the fence answers. b: the bridge is fenced
+--     past_fence b q x    x, if the bridge is not fenced or the fence lets request q pass; else what the fence answers. b: the bridge is fenced
 -- Assumes nothing.
 use Rattle.std.specs.Prelude.{Bool, cond, ◌&&◌}
 use Rattle.kinds.specs.Checked.{Checked, Kept}

@@ -1,7 +1,7 @@
 -- What is asked of an entry is what `profile` says.
 --     asked-walk          THE LAW: the page table is walked where `walks` holds, by its page size; asked-ends: and else the offset comes to `unwalked`
 --     good-span           of a good entry with pages: the span is small
---     walk-walks, other-walks     what was asked tells whether the page table is walked (isWalk); other-ends: and what the offset comes to
+--     walk-walks, other-walks     what was asked tells whether the page table is walked (is_walk); other-ends: and what the offset comes to
 -- Assumes nothing.
 use Rattle.std.specs.Prelude.{◌≡◌, true, false, ◌^◌, ◌≤◌, ltb}
 use Rattle.std.proofs.Math.Path.{refl}

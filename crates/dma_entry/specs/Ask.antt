@@ -1,8 +1,8 @@
 -- What an entry says of an offset before memory is read, as the code goes: each is a part of a definition of `profile`.
---     askedBypass e o     an entry whose page code is 0
---     askedPages e o      an entry with another page code
+--     asked_bypass e o    an entry whose page code is 0
+--     asked_pages e o     an entry with another page code
 --     asked e o           any entry
---     isWalk x            way x is a walk of the page table
+--     is_walk x           way x is a walk of the page table
 --     ended x o           what offset o comes to by way x, with no word of memory asked for; a walk is none of these
 -- Assumes nothing.
 use Rattle.std.specs.Prelude.{Bool, true, false, cond, ◌^◌, ltb}

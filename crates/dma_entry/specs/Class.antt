@@ -1,5 +1,5 @@
 -- The class of an address, as the code goes: a part of the definition of `profile`.
---     lowClass a          the class of an address whose top four bits are 0
+--     low_class a         the class of an address whose top four bits are 0
 -- Assumes nothing.
 use Rattle.std.specs.Prelude.{cond, ◌&&◌, leb}
 use Rattle.kinds.specs.declared.number.ByteAddress.{ByteAddress}

@@ -1,5 +1,5 @@
 -- The shape of a page table, as the code goes: each is a part of a definition of `profile`.
---     known e             a page code that has a size; sizeCode e: its size
+--     known e             a page code that has a size; size_code e: its size
 --     shape_of e           the page size and span of a good entry with pages, whose table code is at most 31
 -- Assumes nothing.
 use Rattle.std.specs.Prelude.{Bool, cond, ◌||◌, leb, eqb}

@@ -1,11 +1,11 @@
 -- Edits and invalidates on the bridge without a cache, in numbers.
 --     met                 `Case.plain` with PE 2's table at 0x2000, of which page 3 may be read; memory has 2,600 words
---     Row, rows           an operation, its answer, and all that is left; rows-hold: THE STATEMENT over them
---     list-hold           a list: a DMA goes by the word that the edit before it wrote
---     owners-hold         the PE that an invalidate belongs to
+--     Row, rows           an operation, its answer, and all that is left; rows_hold: THE STATEMENT over them
+--     list_hold           a list: a DMA goes by the word that the edit before it wrote
+--     owners_hold         the PE that an invalidate belongs to
 --     reached             PE 2's walk can read word 1027, so that an edit of it is its own; refused-free: AN EDIT THAT IS 2 IS NOBODY'S
---     Placed, places      operations on that bridge and their places, PE 2 being the group; places-hold: THE STATEMENT over them
---     below-hold, class-hold, walks-hold  the parts of the test of reach
+--     Placed, places      operations on that bridge and their places, PE 2 being the group; places_hold: THE STATEMENT over them
+--     below_hold, class_hold, walks_hold  the parts of the test of reach
 -- Assumes nothing.
 use Rattle.std.specs.Prelude.{◌≡◌, refl, Bool, true, false, List, [], ◌∷◌, map, ℕ, ◌-◌, ◌≤◌, ◌^◌, eqb, length, set, replicate}
 use mathlib.Core.List.Memᴰ

@@ -1,5 +1,5 @@
 -- Demand 3 of the bridge whose memory firmware edits, from the laws of one request.
---     good-agrees         reason 1 holds on both bridges, or on none
+--     good_agrees         reason 1 holds on both bridges, or on none
 --     Match               two operations match: they have the same place, and what an edit brings into reach is equal
 --     bare-laws           THE LAWS of one operation
 -- Assumes nothing.

@@ -1,7 +1,7 @@
 -- Reach as a test, and memory under edits.
 --     below-some, some_below      a number below n of which the test holds, both ways
---     reach-reads, reads-reach      the test of reach is `Reads`, both ways
---     reach-in          only a word that memory has is in reach, so that an edit of another is nobody's
+--     reach_reads, reads_reach      the test of reach is `Reads`, both ways
+--     reach_in          only a word that memory has is in reach, so that an edit of another is nobody's
 --     edit-away           an edit of a word out of reach is not seen
 --     edit-same           the same edit of two memories, where the words that it brings into reach are equal
 --     reads-alike         a member's walks are by the same entries on both bridges

@@ -1,18 +1,18 @@
 -- 02, [8]: the bridge whose memory firmware edits. Here it has no cache: it is what the bridge with a cache is held against.
 --     Bare                what is written: memory beside state and interrupts
 --     good f s            not reason 1
---     nameable n x        an invalidate of scope x is not 14: it names no PE, or one below n; scopeOwner n x: the PE that it names
---     editAnswer ok k n   an edit of word k of n words: 1, then 2, else done
---     invalidateAnswer ok b   an invalidate: 1, then 14, else done
---     checkedBy ok f s q  all checks before the walk; ok: reason 1 does not hold
---     outcomeBy ok fin f s q  THE STEP OF A REQUEST with another finish: `fin` comes after all checks
---     answerBy, leavesBy  what an operation is answered and leaves, by such a finish: an edit writes its word, an invalidate nothing
---     bareAnswer, bareAfter   of the bridge without a cache: by `finish`, the walk
+--     nameable n x        an invalidate of scope x is not 14: it names no PE, or one below n; scope_owner n x: the PE that it names
+--     edit_answer ok k n  an edit of word k of n words: 1, then 2, else done
+--     invalidate_answer ok b  an invalidate: 1, then 14, else done
+--     checked_by ok f s q  all checks before the walk; ok: reason 1 does not hold
+--     outcome_by ok fin f s q  THE STEP OF A REQUEST with another finish: `fin` comes after all checks
+--     answer_by, leaves_by  what an operation is answered and leaves, by such a finish: an edit writes its word, an invalidate nothing
+--     bare_answer, bare_after  of the bridge without a cache: by `finish`, the walk
 --     owns G f s q        operation q is the group's: a request or an invalidate by its PE; an edit if some walk of a member can read its word, in memory as it
 --                         is then
---     bareMachine G f     the machine of these
+--     bare_machine G f    the machine of these
 --     event a q           the fatal message or fence clear that operation q is, if it is one and its answer a is done
---     placeOn m s q       the place of operation q on machine m
+--     place_on m s q      the place of operation q on machine m
 --     Fresh G f s t q     each word that edit q brings into reach of the group is equal in s and t, which it meets
 --     Alive G f s t       what the group sees of two such bridges
 -- Assumes nothing.

@@ -1,8 +1,8 @@
 -- 02, [8]: whether a word of memory is in reach of a group, as a test.
---     isDma c             c is the DMA class
---     someBelow t n       test t holds of some number below n
---     readsAt f m k p a   a walk of PE p for address a, which is of the DMA class, reads word k
---     inReach G f m k     some walk of a member, a PE below N, can read word k: `Reads` as a test. It is never computed
+--     is_dma c            c is the DMA class
+--     some_below t n      test t holds of some number below n
+--     reads_at f m k p a  a walk of PE p for address a, which is of the DMA class, reads word k
+--     in_reach G f m k    some walk of a member, a PE below N, can read word k: `Reads` as a test. It is never computed
 -- Assumes nothing.
 use Rattle.std.specs.Prelude.{Bool, true, false, ◌&&◌, ◌||◌, List, ℕ, zero, suc, ◌^◌}
 use Rattle.kinds.specs.Has.{has}

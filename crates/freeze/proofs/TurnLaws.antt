@@ -1,5 +1,5 @@
 -- A freeze as the code takes it is the freeze.
---     length-stopped, length-turned   the state keeps its length
+--     length_stopped, length_turned   the state keeps its length
 --     at-stopped          the words of a PE that is stopped are marked, and no others
 --     at-turned           a turn marks the words of its PE, and no others
 --     turns-is            turns for all words stop the peers

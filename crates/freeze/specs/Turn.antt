@@ -1,12 +1,12 @@
 -- A freeze as the code takes it: the failing PE first, then its peers, a PE to a turn.
 --     recorded r v w l i  state l with the record of reason number r, value v and table word w written for the PE whose words start at place i
 --     stopped r v w l k   state l with PE k stopped: both stop bits set, and such a record written if the reason was 0
---     asPeerOf v p l i x  how PE p's peers in vector v are stopped: word i, of value x, of the state l. PE p in its own vector is passed over
---     peersStopped v p l  the state l after it
---     listsNobody v       the four words of vector v are 0; zeroWords v: the tests of each
---     turned b p l k      state l after the turn of PE k; b says whether PE k is in the vector; peerTurn v p: with vector v
+--     as_peer_of v p l i x  how PE p's peers in vector v are stopped: word i, of value x, of the state l. PE p in its own vector is passed over
+--     peers_stopped v p l  the state l after it
+--     lists_nobody v      the four words of vector v are 0; zero_words v: the tests of each
+--     turned b p l k      state l after the turn of PE k; b says whether PE k is in the vector; peer_turn v p: with vector v
 --     end_of n b           where the words of the PEs below b end in a state of n words
---     frozeAll w p e l    state l after a freeze, if every word is that of a PE below N
+--     froze_all w p e l   state l after a freeze, if every word is that of a PE below N
 -- Assumes nothing.
 use Rattle.std.specs.Prelude.{Bool, cond, not, ◌&&◌, List, [], ◌∷◌, ℕ, ◌+◌, ◌*◌, ◌/◌, ltb, eqb, set}
 use Rattle.kinds.specs.Answer.{reason_number}

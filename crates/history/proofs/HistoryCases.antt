@@ -2,12 +2,12 @@
 --     shared              PE 1 is in bypass, and loads at 0x40000000 are its own; PE 2 has a page table, and lists PE 1, itself and PE numbers of N and above
 --     start               the bridge with these tables and a state of zeros; refused: one that reason 1 refuses
 --     Row                 a bridge, a list of requests on it, and the state that it leaves: the words of four PEs, and the fence word
---     freezesOf, clearsOf, both, others   freezes of each kind; clears of each part among them; freezes as the failing PE and as a peer; what is neither
+--     freezes_of, clears_of, both, others  freezes of each kind; clears of each part among them; freezes as the failing PE and as a peer; what is neither
 --     rows                all of them
 --     says, words-said    what the history of a row says of the four PEs; THE STATEMENT over the rows: the words of the row
 --     words_left          and these are the words that the list leaves, with the fence word
---     Acted, acts, acts-hold      single steps, and what they are to PEs 0, 1 and 2: a freeze with which record, a clear of which parts
---     bits-mmio, bits-dma each of the two bits of a stop word by itself
+--     Acted, acts, acts_hold      single steps, and what they are to PEs 0, 1 and 2: a freeze with which record, a clear of which parts
+--     bits_mmio, bits_dma each of the two bits of a stop word by itself
 -- Assumes nothing.
 use Rattle.std.specs.Prelude.{◌≡◌, refl, Bool, true, false, List, [], ◌∷◌, ◌++◌, map, ℕ, ◌-◌, ◌^◌, replicate}
 use Rattle.std.proofs.Math.Option.{Option, none, some}

@@ -1,10 +1,10 @@
 -- What a history does to the words of one PE, and the steps of a list.
 --     leaves-words        THE LAW: what a history makes of zeros, if the state has the words of all PEs
 --     since_none, none_first      where t picks no step none is left of it, and nothing is first
---     cleared-stop, cleared-record    by a history that ends in a release the stop word is 0 and the record empty
+--     cleared-stop, cleared_record    by a history that ends in a release the stop word is 0 and the record empty
 --     unfrozen-same       where they are, PE k sees nothing of any freeze (only k: the group of PE k alone)
---     steps-append        the steps of a list are the same whatever history they come after; steps-both, end-both: two lists, one after the other
---     steps-leave         a machine whose requests do steps is left as its history leaves it
+--     steps_append        the steps of a list are the same whatever history they come after; steps-both, end-both: two lists, one after the other
+--     steps_leave         a machine whose requests do steps is left as its history leaves it
 -- Assumes nothing.
 use Rattle.std.specs.Prelude.{◌≡◌, refl, Bool, true, false, cond, not, ◌||◌, List, [], ◌∷◌, ◌++◌, ℕ, ◌+◌, ◌*◌, ◌/◌, ◌%◌, ◌<◌, ◌≤◌, ltb, eqb, length, get_or}
 use Rattle.std.proofs.Common.{sym, ap, ◌∙◌, append_assoc, arith, lt-ltb, le-ltb, eqb-true}

@@ -7,9 +7,9 @@
 --     met                 the premises hold of it; stopped-answers, free-answers: what PE 1 is answered before it and after it
 --     fencing, fenced-answers     the same with a fence that is left set: 18, in the place of 4 and 11 too
 --     Missing, missing    a list that lacks one premise, and a request of PE 1: what it is answered, and what it would be answered if no PE had been frozen
---     missing-hold        THE STATEMENT over them. So the clears of both bits, and that no freeze stands since the first of them, are needed
+--     missing_hold        THE STATEMENT over them. So the clears of both bits, and that no freeze stands since the first of them, are needed
 --     zeros               the bridge begins with zeros; witness: THE CLAIM at it and these lists, and what follows it; steps-witness: of their steps
---     record-stays        without the clear of the record the answer is the same, and the error record that a next freeze leaves is not; record-written: with
+--     record_stays        without the clear of the record the answer is the same, and the error record that a next freeze leaves is not; record_written: with
 --                         it, it is
 --     zeros-needed        a state that does not begin with zeros keeps words that no history says
 -- Assumes nothing.

@@ -1,6 +1,6 @@
 -- The history from outside, in numbers.
---     reasons, freezing-hold      the reasons by their numbers; THE STATEMENT: which of them are freezes
---     Telling, tellings, tellings-hold    requests and answers, and the effect that they tell
+--     reasons, freezing_hold      the reasons by their numbers; THE STATEMENT: which of them are freezes
+--     Telling, tellings, tellings_hold    requests and answers, and the effect that they tell
 --     words-told          THE STATEMENT over the rows of `HistoryCases`: what is told from their answers is the words of the row
 --     witness             stop word and record of PE 1 after a list are those that are told
 -- Assumes nothing.

@@ -1,2 +1,3 @@
-// What the history of a bridge says of a PE: its stop bits and its error record, and that it is released. A theorem about the profile; all of it stands in specs/.
+// What the history of a bridge says of a PE: its stop bits and its error record, and that it is released. A theorem about the profile: what it
+// claims stands in specs/, that it holds in proofs/.
 #![tactic(auto)]

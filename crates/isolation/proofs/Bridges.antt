@@ -9,12 +9,12 @@
 --                         0 for x = 1
 --     first, second       the two bridges: of `words 1` and of `words 2`
 --     list, other         two lists whose own requests are equal, and which differ in those of PEs 0 and 3 and of nobody
---     fenced, otherFenced     two more: at the same place among the own requests an outsider sends a fatal message, PE 3 in the one and PE 0 in the other,
+--     fenced, other_fenced    two more: at the same place among the own requests an outsider sends a fatal message, PE 3 in the one and PE 0 in the other,
 --                         and at a later one firmware clears the fence; the group sends one too. A fatal message of nobody stands where it will
---     tableWords          the words of a table of table code 1
+--     table_words         the words of a table of table code 1
 --     pe n                the PE with number n; row w r v a: the words of one PE in the state; up_from n k: the k numbers from n on
 --     dma, load           requests in bare numbers; a DMA has 4 bytes
---     opened-bridges      the names that a computation on them opens
+--     opened_bridges      the names that a computation on them opens
 -- Assumes nothing.
 use Rattle.std.specs.Prelude.{Bool, cond, ◌&&◌, List, [], ◌∷◌, ◌++◌, map, ℕ, zero, suc, ◌+◌, ◌-◌, ◌*◌, ◌%◌, ◌^◌, leb, eqb, set, replicate}
 use Rattle.kinds.specs.Words.{at}

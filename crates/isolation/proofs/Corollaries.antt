@@ -3,7 +3,7 @@
 --     Answered G a b l k  what the claim says of two bridges and two lists
 --     one-bridge          one start and two lists with the same places
 --     heard G a l         the group's own requests of a list, and the fatal messages and fence clears of others that are obeyed
---     as-if-alone         a group's answers and words in any list are those that it gets when only these are made
+--     as_if_alone         a group's answers and words in any list are those that it gets when only these are made
 --     view-after          after both lists the bridges meet the premises again, so the claim holds of what follows
 --     ran a l             bridge a after list l
 --     isolated-start      the claim with places by the start

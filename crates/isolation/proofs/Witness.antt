@@ -2,9 +2,9 @@
 --     closed, view        `bridge w` and `bridge v` meet the premises, whatever the words w and v are, if memory is as long
 --     reads-some          the group's walks do read words, by two levels
 --     reads-low           they read nothing beyond the group's two tables
---     outsideWords        the private words of PEs 0 and 3 and the memory beyond the group's tables; outside-is: in `bridge w` they are those of w;
---                         ownStops, own-stops: the group's stop words, whose upper bits are those of w
---     all-differ          each of all these words differs between the two bridges
+--     outside_words       the private words of PEs 0 and 3 and the memory beyond the group's tables; outside-is: in `bridge w` they are those of w;
+--                         own_stops, own-stops: the group's stop words, whose upper bits are those of w
+--     all_differ          each of all these words differs between the two bridges
 --     list-answers, other-answers     what each request of the two lists is answered: one DMA of PE 0 passes to different addresses, by page tables that
 --                         differ, and one is 17; its MSI is presented; others freeze, alone and with peers, are released and are refused
 --     group-answers       what the group is answered: not only refusals; group-left: what is left to it; outside-left: to PEs 0 and 3

@@ -3,7 +3,7 @@
 --     Place Q             what two lists of requests Q are compared by: an own request of the group, whole; of another's fatal message and of a fence clear the
 --                         kind alone; placed-cases, free-cases: by whether there is one
 --     place G f m s q     the place of request q in state s, if it has one: it is the group's own, or a fatal message or fence clear that is answered done
---     placesIn G a l      the places of list l, in order, each by the state that its request meets. A request that has none is free
+--     places_in G a l     the places of list l, in order, each by the state that its request meets. A request that has none is free
 --     answers G a l       what the group's own requests are answered, in order, each in the state that the requests before it left
 --     left a l            state and interrupts after the list; fence a l: the fence word then
 --     Isolation           THE CLAIM, as a type that a promise can cite
@@ -12,7 +12,7 @@
 --     places-start        the places by the start: no request changes them
 --     belongs-keeps       no request changes which requests belong to the group; place-keeps: nor which have a place
 --     laws                the laws of one request are laws of two machines
---     run-agrees          two lists, in the relations of those laws
+--     run_agrees          two lists, in the relations of those laws
 -- Assumes nothing.
 use Rattle.std.specs.Prelude.{◌≡◌, Bool, cond, List, [], ◌∷◌, ℕ}
 use Rattle.std.proofs.Math.Option.{Option, none, some}

@@ -1,6 +1,6 @@
 -- What a group of PEs sees of a bridge, in the words of demand 3.
 --     Bridge              the fixed tables, memory, and what is written
---     bridgeLengths a     the lengths of its tables
+--     bridge_lengths a    the lengths of its tables
 --     Public a b          equal in all that 01 calls public, and in the installed size and the fence word, which are public by 02, [7] and [9]
 --     Written G n s t     the group's stop bits, error records and interrupt records are equal, n being M
 --     View G a b          all that demand 3 asks of two bridges, G being the group

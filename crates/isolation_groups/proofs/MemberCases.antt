@@ -1,7 +1,7 @@
 -- Groups as bit vectors, worked out.
 --     four, full          a vector with the bits 0, 63, 64 and 255; five words with every bit
---     members-hold        these bits are the members 0, 63, 64 and 255; the numbers beside them are none
---     full-hold           255 is a member where every bit is set, 256 is none
+--     members_hold        these bits are the members 0, 63, 64 and 255; the numbers beside them are none
+--     full_hold           255 is a member where every bit is set, 256 is none
 -- Assumes nothing.
 use Rattle.std.specs.Prelude.{◌≡◌, refl, true, false, List, [], ◌∷◌, map, ℕ, ◌+◌, ◌-◌, ◌^◌, replicate}
 use Rattle.isolation_groups.specs.Member.{member_of}

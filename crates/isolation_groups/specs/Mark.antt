@@ -1,5 +1,5 @@
 -- Marks on memory words.
---     anyMark t j         word j of t is not 0: it has a mark
+--     any_mark t j        word j of t is not 0: it has a mark
 -- Assumes nothing.
 use Rattle.std.specs.Prelude.{Bool, not, List, ℕ, eqb}
 use Rattle.kinds.specs.Words.{at}

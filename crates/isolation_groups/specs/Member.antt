@@ -1,5 +1,5 @@
 -- A group of PEs as a bit vector, as a peer vector is.
---     memberOf g n        number n is that of a member: below 256, and bit n mod 64 of word n div 64 of g is set
+--     member_of g n       number n is that of a member: below 256, and bit n mod 64 of word n div 64 of g is set
 --     group g             the same as demand 3 has a group: a test of PEs
 -- Assumes nothing.
 use Rattle.std.specs.Prelude.{Bool, false, cond, List, ℕ, ltb}

@@ -1,5 +1,5 @@
 -- The marks made for an entry are those of the words that walks by it read for an address of the DMA class.
---     by-kept, by_length  a mark stays, and the length
+--     by_kept, by_length  a mark stays, and the length
 --     entry_read          A WORD THAT A WALK READS HAS A MARK
 --     entry-marked        A WORD THAT HAS A MARK IS READ BY A WALK, if it had none before
 -- Assumes nothing.

@@ -1,5 +1,5 @@
 -- The pages of a record that are not walked are those whose addresses are of the 32-bit MSI window.
---     gap-inside          the first of them is a page of the table; gap-apart, gap-together: what the search by levels asks of them
+--     gap_inside          the first of them is a page of the table; gap_apart, gap_together: what the search by levels asks of them
 --     page-dma            the first address of a page that is not among them is of the DMA class; dma-page: an address of the DMA class is in no such page
 -- Assumes nothing.
 use Rattle.std.specs.Prelude.{◌≡◌, ℕ, ◌+◌, ◌-◌, ◌*◌, ◌/◌, ◌^◌, ◌<◌, ◌≤◌, leb, eqb}

@@ -1,6 +1,6 @@
 -- The marks of one level more, as a loop makes them, and what a good entry with pages says.
---     marks-zero, marks-suc   the last level, and one that has levels below it
---     walkable-code, walkable-bits  the ranges of an entry whose table can be walked
+--     marks_zero, marks_suc   the last level, and one that has levels below it
+--     walkable-code, walkable_bits  the ranges of an entry whose table can be walked
 --     paged-code, paged-level, paged-aligned, paged-span   those of a good entry with pages
 -- Assumes nothing.
 use Rattle.std.specs.Prelude.{◌≡◌, true, ◌&&◌, List, leb, length}

@@ -1,8 +1,8 @@
 -- A loop that sets words of a list to 1.
---     length-puts         the length is kept
+--     length_puts         the length is kept
 --     marked-below        a word with a mark is one of the list; none-marked: a list of zeros has none
---     puts-kept           a mark stays; puts-put: a word that is set has one
---     puts-cases          a mark was there, or its word was set
+--     puts_kept           a mark stays; puts_put: a word that is set has one
+--     puts_cases          a mark was there, or its word was set
 -- Assumes nothing.
 use Rattle.std.specs.Prelude.{◌≡◌, Bool, true, ◌&&◌, List, ltb, eqb, length, set, replicate}
 use Rattle.std.proofs.Math.Path.{refl}

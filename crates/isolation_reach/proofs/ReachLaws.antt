@@ -1,7 +1,7 @@
 -- The marks that are made from the tables of a level are those of the words that walks read from there on.
 --     Free g c q          page q is not one of the c pages from g
 --     Led, Own            how a table was led to: by pages of other upper levels than those of page g, or by those that have them
---     marks-kept          a mark stays; length-marks: and the length
+--     marks-kept          a mark stays; length_marks: and the length
 --     read-marked         A WORD THAT A WALK READS HAS A MARK
 --     marked-read         A WORD THAT HAS A MARK IS READ BY A WALK; R q i is said of what the walk of page q reads
 -- Assumes nothing.

@@ -1,9 +1,9 @@
 -- Words, tables and pages: which word of a table a page has, and which table a word leads to.
---     first-place, index-place    the table and the index of a word by its place in a table that starts at a multiple of its size; whole-place: both together
+--     first-place, index_place    the table and the index of a word by its place in a table that starts at a multiple of its size; whole-place: both together
 --     first-aligned       the first word of a table is such a multiple; eighth: so is that of an aligned base
---     lead_is, lead-cases the table that a word leads to
---     within-table, within-here, within-cases     what it says that a word is within
---     up, part            the upper levels of a page: one less, and one less with its index; page-zero: all levels
+--     lead_is, lead_cases the table that a word leads to
+--     within-table, within_here, within-cases     what it says that a word is within
+--     up, part            the upper levels of a page: one less, and one less with its index; page_zero: all levels
 -- Assumes nothing.
 use Rattle.std.specs.Prelude.{◌≡◌, refl, true, not, List, ℕ, zero, suc, ◌+◌, ◌-◌, ◌*◌, ◌/◌, ◌%◌, ◌^◌, ◌<◌, ◌≤◌, ltb, eqb}
 use Rattle.std.proofs.Common.{sym, mul-zero, mul-suc, mul_left_comm, div-one, arith, pow-add, shr-shr}

@@ -3,19 +3,19 @@
 --     index_of n k q       the index of page q in a table of 2 ^ n words with k levels below it
 --     first_of n j         the first word of the table of 2 ^ n words that memory word j is in
 --     table_of n w z       the first word of the table that an upper word w leads to, or z where it leads to none
---     leadsTo m n j       the first word of the table that word j of memory m leads to; where it leads to none, the length of m
+--     leads_to m n j      the first word of the table that word j of memory m leads to; where it leads to none, the length of m
 --     within t n x d c j  word j is in a table whose first word is marked in t; or in the table that starts at word x, but at none of the c indexes from d
---     putTurn P w r j     word w j of r is set to 1 where P j holds; markTurn, tableTurn: the turns of the two loops below
---     markedIn w t n x d c r      r with a mark on each of the first w memory words that is so
---     tablesOver m t n x d u      u with a mark on the first word of each table that such a word leads to, where only index d is left out;
---                                 tablesUnder m t n x d: the same on a list of no marks
---     marksFrom m n q c k t x r   r with the words that walks read from the tables with k levels below them. t has the tables that a page other than
+--     put_turn P w r j    word w j of r is set to 1 where P j holds; mark_turn, table_turn: the turns of the two loops below
+--     marked_in w t n x d c r     r with a mark on each of the first w memory words that is so
+--     tables_over m t n x d u     u with a mark on the first word of each table that such a word leads to, where only index d is left out;
+--                                 tables_under m t n x d: the same on a list of no marks
+--     marks_from m n q c k t x r  r with the words that walks read from the tables with k levels below them. t has the tables that a page other than
 --                                 those from q, of which there are c, leads to by its upper levels; x is the table that page q leads to
---     gapAt e q c         c pages from page q, where the table of entry e has page q, else none
---     msiPage4k ..        the first page of the 32-bit MSI window, and how many it has, where pages have 4 KiB, and 64 KiB
+--     gap_at e q c        c pages from page q, where the table of entry e has page q, else none
+--     msi_page4k ..       the first page of the 32-bit MSI window, and how many it has, where pages have 4 KiB, and 64 KiB
 --     Gap, gap_of e h      the pages, of those that record h has, that are not walked, since all of their addresses are of the 32-bit MSI window: the first,
 --                         and how many
---     marksBy m e h r     r with the words that walks by entry e, which is record h of its PE, read for an address of the DMA class; marksWith: with the
+--     marks_by m e h r    r with the words that walks by entry e, which is record h of its PE, read for an address of the DMA class; marks_with: with the
 --                         lists that are lent for it
 -- Assumes nothing.
 use Rattle.std.specs.Prelude.{Bool, true, false, cond, List, ℕ, zero, suc, ◌+◌, ◌-◌, ◌*◌, ◌/◌, ◌%◌, ◌^◌, leb, ltb, eqb, length, set, replicate}

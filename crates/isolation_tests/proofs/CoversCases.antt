@@ -1,5 +1,5 @@
 -- When the marks of a group are made.
---     coverable-hold      with the most PEs, and with no memory at all; not with one PE more, nor where one of the three lists has another length
+--     coverable_hold      with the most PEs, and with no memory at all; not with one PE more, nor where one of the three lists has another length
 -- Assumes nothing.
 use Rattle.std.specs.Prelude.{◌≡◌, refl, Bool, true, false, List, [], ◌∷◌, ℕ}
 use Rattle.isolation_tests.specs.Covers.{coverable}

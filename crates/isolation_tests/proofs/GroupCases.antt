@@ -1,7 +1,7 @@
 -- Tests and owners as numbers, worked out.
---     flags-hold          a test that holds is 1, another 0
---     owners-hold         PE 255 is 255, nobody is 65,536
---     owners n, operations-hold   an invalidate of PE 3 of 4, by PE and by address, is PE 3's; one of PE 4, one for all and an edit are nobody's, and so is all with 257 PEs
+--     flags_hold          a test that holds is 1, another 0
+--     owners_hold         PE 255 is 255, nobody is 65,536
+--     owners n, operations_hold   an invalidate of PE 3 of 4, by PE and by address, is PE 3's; one of PE 4, one for all and an edit are nobody's, and so is all with 257 PEs
 -- Assumes nothing.
 use Rattle.std.specs.Prelude.{◌≡◌, refl, true, false, List, [], ◌∷◌, map, ℕ}
 use Rattle.kinds.specs.declared.answer.Reason.TheVariants.{BadFirmware}

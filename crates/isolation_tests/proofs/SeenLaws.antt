@@ -1,6 +1,6 @@
 -- Two bridges that agree in the words that are public or the group's meet the premises of demand 3, and a run of each answers the group alike and leaves it the same.
 --     viewed              with exact marks, `SeenAlike` gives `View`: what demand 3 asks of two bridges
---     isolated-run        THE STATEMENT: where the group is `closed`, the marks are `Exact`, every `seen` word is equal in both and so are the places
+--     isolated_run        THE STATEMENT: where the group is `closed`, the marks are `Exact`, every `seen` word is equal in both and so are the places
 --                         of the requests, the answers are equal, and the group's stop bits, error records and interrupt records and the fence word are left equal
 -- Assumes nothing.
 use Rattle.std.specs.Prelude.{◌≡◌, List, ℕ, ◌+◌, ◌*◌, ◌/◌, ◌%◌, ◌<◌, ltb, length}

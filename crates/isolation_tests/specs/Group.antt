@@ -1,10 +1,10 @@
 -- Whom a request or an operation belongs to, in numbers, and the test that no PE outside the group lists a member.
 --     flag b              a test as a number: 1 or 0
---     ownerNumber o       the number of the owner, or 65,536, which is no PE's, for nobody
---     ownerNumberIn ..    that of request q, by the tables that tell it; 65,536 too where N is above its limit
---     operationNumberIn ..    that of operation q: an invalidate is its PE's; an edit is asked of the group, and no PE's
---     memberListed g v k      PE k is a member and in the vector v; listsMember g v n: one of the first n PEs is
---     outsiderLists g l n p   PE p is no member and lists one of the first n PEs that is, l being the peers table; anyOutsiderLists g l n: one of the
+--     owner_number o      the number of the owner, or 65,536, which is no PE's, for nobody
+--     owner_number_in ..  that of request q, by the tables that tell it; 65,536 too where N is above its limit
+--     operation_number_in ..  that of operation q: an invalidate is its PE's; an edit is asked of the group, and no PE's
+--     member_listed g v k     PE k is a member and in the vector v; lists_member g v n: one of the first n PEs is
+--     outsider_lists g l n p  PE p is no member and lists one of the first n PEs that is, l being the peers table; any_outsider_lists g l n: one of the
 --                             first n PEs does
 --     closed n g l        no PE below n outside the group lists a member below n; n being N, and at most its limit
 -- Assumes nothing.

@@ -1,6 +1,6 @@
 -- The table words that are public or the group's. The tables are numbered from 0 in the order of 01's list.
---     interruptSeen g l i     of word i of the interrupts l: the PE word of each interrupt is public, the others are its PE's
---     stateSeen g n i         of word i of the state, n being N: the fence word is public, the others are their PE's
+--     interrupt_seen g l i    of word i of the interrupts l: the PE word of each interrupt is public, the others are its PE's
+--     state_seen g n i        of word i of the state, n being N: the fence word is public, the others are their PE's
 --     seen g n l t k i        word i of table k is public or the group's, n being N, l the interrupts and t the marks of memory
 -- Assumes nothing.
 use Rattle.std.specs.Prelude.{Bool, true, cond, List, ℕ, ◌*◌, ◌/◌, ◌%◌, eqb}

@@ -1,6 +1,6 @@
 -- Two bridges that agree in the words that are public or the group's.
 --     table_of a n         table n of bridge a, in the order of 01's list
---     seenOf n k i x      what counts of word i, of value x, of table k, n being N: of a stop word the lowest two bits, of another word all
+--     seen_of n k i x     what counts of word i, of value x, of table k, n being N: of a stop word the lowest two bits, of another word all
 --     SeenAlike g t a b   sizes, the installed size and lengths are equal, and so is what counts of every word that is seen in the first bridge, t being the marks of its
 --                         memory
 -- Assumes nothing.

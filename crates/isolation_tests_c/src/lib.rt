@@ -31,7 +31,21 @@ pub extern "C" fn celltimber_owner(
 ) -> u64
     ensures { result ≡ operation_number_in (record { pes = pes; interrupts = interrupt_count; requesters = requester_count }) requesters.now windows.now segments.now interrupts.now (decoded_operation kind a b c d e) }
 {
-    export::celltimber_owner(pes, interrupt_count, requester_count, requesters, interrupts, windows, segments, kind, a, b, c, d, e)
+    export::celltimber_owner(
+        pes,
+        interrupt_count,
+        requester_count,
+        requesters,
+        interrupts,
+        windows,
+        segments,
+        kind,
+        a,
+        b,
+        c,
+        d,
+        e,
+    )
 }
 
 // 1 if the number is that of a member of the group, else 0.

@@ -1,7 +1,7 @@
 -- The numbers of every answer and reason, in one table with one statement over it.
 --     NumberCase          an answer and its eight numbers: name, reason, value, words, PE, server, priority, word
---     numberCases         the answers, each by numbers that differ; then every reason, in 01's order
---     numbers-hold        THE STATEMENT: each has the numbers of its row
+--     number_cases        the answers, each by numbers that differ; then every reason, in 01's order
+--     numbers_hold        THE STATEMENT: each has the numbers of its row
 -- Assumes nothing.
 use Rattle.std.specs.Prelude.{◌≡◌, refl, List, [], ◌∷◌, map, ℕ}
 use Rattle.kinds.specs.declared.answer.Answer.{Answer}

@@ -2,7 +2,7 @@
 --     Conversion          what a definition gives, and what it should give
 --     conversions         the page of an address and an address in a page, by each page size; addresses of words of memory; the last byte of a
 --                         range
---     conversions-hold    THE STATEMENT: each gives the number of its row
+--     conversions_hold    THE STATEMENT: each gives the number of its row
 -- Assumes nothing.
 use Rattle.std.specs.Prelude.{◌≡◌, refl, List, [], ◌∷◌, map, ℕ}
 use Rattle.kinds.specs.Number.{page_number, byte_address, word_address, no_word, last_byte}

@@ -1,10 +1,10 @@
 -- Shifts and masks at 64 bits as powers, quotients and remainders.
---     one_shl             1 << k; one-shl-pos is what `(1 << k) - 1` asks
---     eight-shl           8 << k, the bytes of a table of 2 ^ k words
+--     one_shl             1 << k; one_shl_pos is what `(1 << k) - 1` asks
+--     eight_shl           8 << k, the bytes of a table of 2 ^ k words
 --     masked              x & ((1 << k) - 1)
 --     cleared             (x >> k) << k
 --     joined              (p << k) | (x & ((1 << k) - 1)), cut to 64 bits; joined-fits: a word with its lowest k bits replaced is in 64 bits
---     mod-lt-pow          a remainder by 2 ^ k is below every power from 2 ^ k up
+--     mod_lt_pow          a remainder by 2 ^ k is below every power from 2 ^ k up
 --     less_one            l times b is one b more than l - 1 times b
 -- Assumes nothing.
 use Rattle.std.specs.Prelude.{◌≡◌, ℕ, zero, suc, ◌+◌, ◌-◌, ◌*◌, ◌/◌, ◌%◌, ◌^◌, ◌≤◌, ◌<◌}

@@ -1,7 +1,7 @@
 -- Laws of a loop over the groups of w words of a table, each turn rewriting one group by a rule of its old words. The last group may be incomplete.
---     turns-suc           one turn more; turns_next: as a loop takes it; length-turns: the length is kept
+--     turns_suc           one turn more; turns_next: as a loop takes it; length_turns: the length is kept
 --     at_place            a word after a store to word j of group k; at_first: to its word 0
---     turns-mapAt         turns that reach the end of the table rewrite it by the rule
+--     turns-map_at        turns that reach the end of the table rewrite it by the rule
 -- Assumes nothing.
 use Rattle.std.specs.Prelude.{◌≡◌, Bool, true, false, cond, ◌&&◌, List, ltb, eqb, length, set}
 use Rattle.std.proofs.Math.Path.{refl}

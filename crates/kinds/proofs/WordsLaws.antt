@@ -1,9 +1,9 @@
 -- Reads after writes, as equations with no premise on the place.
 --     at_out              a word outside the table is 0
---     pe-in               the number of a PE in a word that the table has; pe-out: a word outside it is 2 ^ 16, above all numbers of 16 bits
+--     pe_in               the number of a PE in a word that the table has; pe-out: a word outside it is 2 ^ 16, above all numbers of 16 bits
 --     at_set              a word after a single store
 --     at_front            a word after the first words of the table became others
---     at-mapAt            a word after a table was rewritten by a rule; length-mapAt keeps the length
+--     at-map_at           a word after a table was rewritten by a rule; length_map_at keeps the length
 -- Assumes nothing.
 use Rattle.std.specs.Prelude.{◌≡◌, refl, false, cond, ◌&&◌, List, [], ◌∷◌, ◌++◌, ℕ, zero, suc, ◌+◌, ◌-◌, ◌^◌, ◌<◌, ltb, eqb, length, set, drop}
 use Rattle.std.proofs.Common.{ap, ◌∙◌, zero-add, add-zero, add-suc, suc-add, not-suc-le-zero, le_of_suc-le-suc, arith, get_or-set_same, get_or-set_other, get_or-append-add, get_or-drop, ltb-true, ltb-false, eqb-true}

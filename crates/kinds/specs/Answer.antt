@@ -1,11 +1,11 @@
 -- The paper's numbers of an answer.
---     reasonNumber r      the number of reason r in the table of answers
+--     reason_number r     the number of reason r in the table of answers
 --     numbered a          answer a as numbers: its name (0 pass, 1 msi, 2 held, 3 ones, 4 drop, 5 refuse, 6 done), its reason (0: none),
 --                         its value (an address, an interrupt number, all ones, or 0), the count of table words read, its PE, server and
 --                         priority, and the address of the table word that failed (0 where an answer has none); plain: of an answer that has
 --                         none of these four
 --     refuse r            the refusal with no table word read, and none that failed
---     isDone a            answer a is done
+--     is_done a           answer a is done
 -- Assumes nothing.
 use Rattle.std.specs.Prelude.{Bool, true, false, ℕ}
 use Rattle.kinds.specs.Number.{no_word}

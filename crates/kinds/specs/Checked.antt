@@ -1,7 +1,7 @@
 -- What is known of a request before memory is read.
 --     Checked             it is answered and nothing is done; or its outcome is known, whose effect is done at a PE; or the page table of an entry of
 --                         a PE is walked for a DMA; or it is done, and the fence bit becomes this, which is no PE's
---     shown x             the same as the code's struct; noEntry, noDma: what is empty in it
+--     shown x             the same as the code's struct; no_entry, no_dma: what is empty in it
 -- Assumes nothing.
 use Rattle.std.specs.Prelude.{Bool, true, false}
 use Rattle.kinds.specs.Outcome.{kept, done}

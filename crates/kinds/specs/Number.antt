@@ -1,11 +1,11 @@
 -- Pages, words of memory and bytes: the ways from one kind of number to another.
---     pageBits s          the address bits inside a page of size s
---     pageNumber s a      the page that byte address a lies in
---     byteAddress s p a   the byte address in page p at the offset that a has in its own page
+--     page_bits s         the address bits inside a page of size s
+--     page_number s a     the page that byte address a lies in
+--     byte_address s p a  the byte address in page p at the offset that a has in its own page
 --     word_bytes           the bytes of a word of memory
---     wordAddress k       the byte address of word k of memory
+--     word_address k      the byte address of word k of memory
 --     no_word              the address that stands where no word of memory is named
---     lastByte a n        the address of the last of n bytes from a
+--     last_byte a n       the address of the last of n bytes from a
 -- Assumes nothing.
 use Rattle.std.specs.Prelude.{ℕ, ◌+◌, ◌-◌, ◌*◌, ◌/◌, ◌%◌, ◌^◌}
 use Rattle.kinds.specs.declared.number.ByteAddress.{ByteAddress}

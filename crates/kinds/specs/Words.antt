@@ -1,7 +1,7 @@
 -- The words of a table: read, or all rewritten by a rule.
 --     at l i              word i of l, or 0 where l has none
---     noPe, peAt l i      65,536, which is no PE's number; the number of a PE that word i of l holds, or `no_pe` where l has no such word
---     mapAt f j l         each word of l rewritten by f from its place, counted from j, and its old value
+--     no_pe, pe_at l i    65,536, which is no PE's number; the number of a PE that word i of l holds, or `no_pe` where l has no such word
+--     map_at f j l        each word of l rewritten by f from its place, counted from j, and its old value
 --     bit_of l k           bit k mod 64 (0 lowest) of word k div 64 of l is set
 -- Assumes nothing.
 use Rattle.std.specs.Prelude.{Bool, List, [], ◌∷◌, ℕ, suc, ◌/◌, ◌%◌, ◌^◌, eqb, get_or}

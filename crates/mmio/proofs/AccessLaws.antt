@@ -1,5 +1,5 @@
 -- The width of a load or store that is not badly formed.
---     width-most          it is at most 8 bytes
+--     width_most          it is at most 8 bytes
 --     ones-formed         so its all ones are those that `ones` gives
 -- Assumes nothing.
 use Rattle.std.specs.Prelude.{◌≡◌, true, ◌||◌, ℕ, ◌%◌, ◌≤◌, min, eqb}

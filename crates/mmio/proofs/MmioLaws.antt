@@ -1,5 +1,5 @@
 -- What the functions of `mmio` are proved from. `r` is what a call gave.
---     access-at ..        a load or store by its hit; ones-narrow ..: all ones of a width
+--     access_at ..        a load or store by its hit; ones_narrow ..: all ones of a width
 -- Assumes nothing.
 use mathlib.Core.Path.{◌≡◌}
 use mathlib.Core.Bool.{cond}

@@ -1,5 +1,5 @@
 -- What `access_of` is proved from.
---     by-stop-word        the answer by the stop word that was read
+--     by_stop_word        the answer by the stop word that was read
 -- Assumes nothing.
 use mathlib.Core.Path.{◌≡◌, ◌∙◌}
 use mathlib.Core.List.{List}

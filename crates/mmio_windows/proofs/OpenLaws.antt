@@ -1,7 +1,7 @@
 -- What `is_placed`, `m32_takes` and `m64_takes` are proved from. `p`, `q` are what calls gave.
 --     m32-power, m64-power    a size that passes the test of M32 or of M64 is a power of its range
 --     placed-there, placed-away   the base is the address without the bits below the size, or it is not
---     m32-away ..         M32 takes an address or does not, test by test; m64-off ..: so does an M64 window
+--     m32-away ..         M32 takes an address or does not, test by test; m64_off ..: so does an M64 window
 -- Assumes nothing.
 use Rattle.std.proofs.Common.{◌≡◌, ℕ, ◌+◌, ◌-◌, ◌*◌, ◌%◌, ◌^◌, ◌<◌, ◌≤◌, Bool, true, false, ◌&&◌, ◌||◌, eqb, ltb, leb, List, sym, refl, ◌∙◌, arith, pow_pos, pow_mono, ltb-true, lt-ltb, eq-eqb, ne_eqb, eqb-true, le-leb, leb-false, leb-true}
 use lib.Bits.{bit_and}

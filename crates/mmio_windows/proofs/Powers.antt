@@ -1,10 +1,10 @@
 -- A power of two by the count of its trailing zeros.
---     trailing-pow        2 ^ j has j trailing zeros
+--     trailing_pow        2 ^ j has j trailing zeros
 --     power-is            the code's test is the definition's: x is 2 to the count of its zeros, in the range; power_below, power-above: outside it
---     power-of            what a number that passes the test is; wider: in a wider range too
+--     power_of            what a number that passes the test is; wider: in a wider range too
 --     multiple-is         a mask is a remainder by a power
 --     begins-placed, placed-begins    b is a without the rest by n exactly where b is a multiple of n and a is one of the n bytes from b
---     segment-is          a shift by the exponent less 8 is a quotient by the 256th part of the size
+--     segment_is          a shift by the exponent less 8 is a quotient by the 256th part of the size
 -- Assumes nothing.
 use Rattle.std.proofs.Common.{◌≡◌, ℕ, zero, suc, ◌+◌, ◌-◌, ◌*◌, ◌/◌, ◌%◌, ◌^◌, ◌<◌, ◌≤◌, true, false, eqb, sym, refl, ap, ◌∙◌, le_of_suc-le-suc, mod-lt, mod-eq_of_lt, pow-suc, arith, pow_pos, pow-add, w64, Fits, eq-eqb, eqb-true}
 use native.Mathlib.Nat.{div-add-mod, mul-mod_right, mod-le, add-mul-mod_self_left}

@@ -1,6 +1,6 @@
 -- What the functions of `mmio_windows` are proved from. `p`, `q`, `r` are what calls gave.
 --     m32-from ..         what is known of a window that takes an address: m64-from ..
---     from-hit, from_next     one turn of the search through the M64 windows; from_end: its end
+--     from_hit, from_next     one turn of the search through the M64 windows; from_end: its end
 --     route-m32, route-m64    M32 takes the address, or the M64 windows are asked
 -- Assumes nothing.
 use Rattle.std.proofs.Common.{◌≡◌, ℕ, zero, suc, ◌+◌, ◌-◌, ◌*◌, ◌%◌, ◌^◌, ◌<◌, ◌≤◌, Bool, true, false, cond, ◌&&◌, eqb, ltb, leb, List, sym, refl, ap, ◌∙◌, sub-one, arith, w64, Fits, ltb-true, leb-true}
@@ -81,7 +81,7 @@ unfolding m64_from m64 m64_takes
 from_suc ws zero k a h = absurd (omega arith)
 from_suc ws (suc n) k a h = rw (sub-one (suc n))
 
--- n windows are left, from number m64Count - n on
+-- n windows are left, from number m64_count - n on
 module _ (ws : List ℕ) (n : ℕ) (a : ByteAddress) (i : m64_from ws m64_count 0 a ≡ m64_from ws n (m64_count - n) a) where
   module _ {p : Bool} (some : 0 < n) (few : n ≤ m64_count) (e : p ≡ m64_takes (window ws (m64_count - n)) a) where
     from_here : m64_from ws m64_count 0 a ≡ cond p (At (m64_pe (window ws (m64_count - n)) a) a) (m64_from ws (n - 1) (m64_count - (n - 1)) a)

@@ -1,6 +1,6 @@
 -- Which window takes an address.
 --     placed l m b n a    n is a power of two from 2 ^ l to 2 ^ m, b is a multiple of it, and a is one of the n bytes from b
---     m32Takes ..         M32 is open and covers the address; m64Takes w a: so is and does M64 window w
+--     m32_takes ..        M32 is open and covers the address; m64_takes w a: so is and does M64 window w
 -- Assumes nothing.
 use Rattle.std.specs.Prelude.{ℕ, ◌-◌, ◌%◌, Bool, ◌&&◌, ◌==◌}
 use Rattle.kinds.specs.declared.number.ByteAddress.{ByteAddress}

@@ -1,5 +1,5 @@
 -- What `interrupt_at` and `store` are proved from.
---     words-in, none_in   the words of an interrupt; stores ..: the table after its two written words
+--     words_in, none_in   the words of an interrupt; stores ..: the table after its two written words
 -- Assumes nothing.
 use mathlib.Core.Path.{◌≡◌}
 use mathlib.Core.List.{List}

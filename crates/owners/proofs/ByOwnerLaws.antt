@@ -2,7 +2,7 @@
 --     asked_by            what is asked, in this form, of a request that is refused where it is nobody's: all are but a fence clear. With `ask` unfolded
 --                         it names what a request of its kind reads and nothing else
 --     asked-case          so what is found for a request of a kind is what is asked of its owner
---     of-pe, of-nobody    what is found by an owner that was looked up
+--     of_pe_lem, of_nobody  what is found by an owner that was looked up
 -- Assumes nothing.
 use Rattle.std.specs.Prelude.{◌≡◌, List, ℕ}
 use Rattle.std.proofs.Math.Path.{refl}

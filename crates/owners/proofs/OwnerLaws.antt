@@ -1,6 +1,6 @@
 -- What the functions of `owners` are proved from.
 --     below-count, interrupt-named    a PE found by a number below the count of its table, and by that of an interrupt
---     hit-found, hit-missed           the owner of a load or store; owner-case, hit-case: the owner of a request by its kind
+--     hit_found, hit_missed           the owner of a load or store; owner-case, hit_case: the owner of a request by its kind
 -- Assumes nothing.
 use mathlib.Core.Path.{◌≡◌, ap, ◌∙◌}
 use mathlib.Core.Bool.{cond}

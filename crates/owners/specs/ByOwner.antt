@@ -1,5 +1,5 @@
 -- What a request comes to, by its owner.
---     byOwner k o         k of the PE that it belongs to; nobody's is refused
+--     by_owner k o        k of the PE that it belongs to; nobody's is refused
 -- Assumes nothing.
 use Rattle.kinds.specs.Answer.{refuse}
 use Rattle.kinds.specs.Checked.{Checked, Kept}

@@ -1,10 +1,10 @@
 -- Loads and stores: the order of their checks, and the windows.
---     accessChecks        1, 2, 10, 11 for loads and stores, each neighbouring pair where both conditions hold and the first decides
---     accessWidths        the widths, and what a stopped PE's load and store are answered
---     m32Cases            M32: its edges, segments and limits, open and closed
---     m64Cases            M64: modes, edges and limits, open and closed
---     firstWindow         M32 before M64, each M64 window before the next, a closed one passed over, and reason 10 of the first that is open
---     accessCases         all of them
+--     access_checks       1, 2, 10, 11 for loads and stores, each neighbouring pair where both conditions hold and the first decides
+--     access_widths       the widths, and what a stopped PE's load and store are answered
+--     m32_cases           M32: its edges, segments and limits, open and closed
+--     m64_cases           M64: modes, edges and limits, open and closed
+--     first_window        M32 before M64, each M64 window before the next, a closed one passed over, and reason 10 of the first that is open
+--     access_cases        all of them
 -- Assumes nothing.
 use Rattle.std.specs.Prelude.{List, [], ◌∷◌, ◌++◌, map, ℕ, zero, suc, ◌+◌, ◌-◌, ◌*◌, ◌^◌, set, replicate}
 use Rattle.kinds.specs.declared.answer.Answer.TheVariants.{Ones, Drop}

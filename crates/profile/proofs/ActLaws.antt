@@ -1,11 +1,11 @@
 -- What an effect does to what a group sees. None of these laws asks which request the effect comes from.
 --     calm e              the effect leaves the fence as it is
---     act-unseen          a calm effect at a PE outside the group, none of whose peers is inside, is not seen; whole-calm: of a calm one nothing is done
+--     act_unseen          a calm effect at a PE outside the group, none of whose peers is inside, is not seen; whole-calm: of a calm one nothing is done
 --                         where there is no PE
---     act-agrees          the same effect at a member, on two bridges that agree, keeps that they agree; whole-agrees: so does one to the fence, whoever
+--     act_agrees          the same effect at a member, on two bridges that agree, keeps that they agree; whole_agrees: so does one to the fence, whoever
 --                         has it done
---     act-keeps, whole-keeps      no effect changes the PE word of an interrupt; actBy-lengths: nor the length of a table
---     no-peers            a freeze alone lists nobody; froze-past: a freeze leaves every word from PE N on, the fence word first, whatever bits are set
+--     act-keeps, whole-keeps      no effect changes the PE word of an interrupt; act_by-lengths: nor the length of a table
+--     no_peers_lem        a freeze alone lists nobody; froze-past: a freeze leaves every word from PE N on, the fence word first, whatever bits are set
 --     beyond x            effect x changes words that are not its PE's: it takes peers along, or sets or clears the fence; act-others: any other leaves
 --                         every word of the state that is not its PE's
 -- A new effect adds a clause to each.

@@ -1,10 +1,10 @@
 -- The relations of `Agree` are equivalences, and what they give of an entry, of a walk, of the words of a member.
---     same_refl, same-sym, same-trans     so a request that the group does not see may stand on either side; alike_refl
---     stop-agrees, reason-agrees  the stop bits and the reason of a member
---     interrupt-agrees    the record of an interrupt of a member
---     entry-agrees        the translation entries of a member; half-agrees: the one that an address picks
---     translation-agrees  a member's translation is the same over both memories; reads-agrees: so it reads the same places
---     held-refl, held-sym, held-trans     `Held` is an equivalence too: its premise on the words of the first memory is none on the second's
+--     same_refl, same_sym, same_trans     so a request that the group does not see may stand on either side; alike_refl
+--     stop_agrees, reason_agrees  the stop bits and the reason of a member
+--     interrupt_agrees    the record of an interrupt of a member
+--     entry_agrees        the translation entries of a member; half_agrees: the one that an address picks
+--     translation_agrees  a member's translation is the same over both memories; reads_agrees: so it reads the same places
+--     held_refl, held_sym, held_trans     `Held` is an equivalence too: its premise on the words of the first memory is none on the second's
 -- Assumes nothing.
 use Rattle.std.specs.Prelude.{◌≡◌, refl, Bool, true, ℕ, ◌+◌, ◌*◌, ◌/◌, ◌%◌, ◌<◌}
 use Rattle.std.proofs.Common.{sym, ◌∙◌, arith, eq-eqb, ne_eqb}

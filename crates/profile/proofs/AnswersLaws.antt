@@ -5,7 +5,7 @@
 --     worded a            answer a names a table word under 8 and 15 alone
 --     answered-worded     so does every answer, on any tables
 --     stopped f n s q     the fence stops request q, n being the length of memory: 1 and 2 do not hold, the fence is set, and it stops such a request
---     decided-split       every request is decided by the fence, where it stops it, and else as if there were no fence (unbarred, unbarredOn)
+--     decided_split       every request is decided by the fence, where it stops it, and else as if there were no fence (unbarred, unbarred_on)
 --     answered-fenced     THE LAW OF 18: it is answered exactly where the fence stops a request; stopped-answered, stopped-keeps: with what answer, and
 --                         then no word changes
 --     decided-calm        no request but a fatal message and a fence clear (`kind`) changes the fence
@@ -14,8 +14,8 @@
 --     decided-fits        so, with answered-shown, WHETHER PEERS ARE TAKEN follows from the reason, on any tables, and the record's TABLE WORD is the
 --                         answer's
 --     refused-others      a request that is answered with a reason leaves every word of the state of each PE but its owner
---     unsized-answered    on tables that 01's table of lengths does not allow every answer is reason 1, with no word read; unsized-decided: and no effect
---     unsized-keeps       and nothing changes
+--     unsized_answered    on tables that 01's table of lengths does not allow every answer is reason 1, with no word read; unsized_decided: and no effect
+--     unsized_keeps       and nothing changes
 -- Assumes nothing.
 use Rattle.std.specs.Prelude.{◌≡◌, Bool, cond, not, ◌&&◌, ◌||◌, List, ℕ, ◌*◌, ◌/◌, ◌%◌, ltb, length}
 use Rattle.std.proofs.Math.Path.{refl, ap}

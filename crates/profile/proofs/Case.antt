@@ -9,18 +9,18 @@
 --     plain               the bridge with 01's record: a table at 0x2000, one level, table code 1, page code 1
 --     short               a bridge that reason 1 refuses: it lacks a word of the windows
 --     wide n v w g        n PEs and no interrupt; requester 0 is PE 0, requester 1 the last PE
---     wordRow w r v a     the words of a PE in the state, with the address of a table word in the record; stateRow w r v: with none; calm: of one that is
+--     word_row w r v a    the words of a PE in the state, with the address of a table word in the record; state_row w r v: with none; calm: of one that is
 --                         not stopped and has no record; endpoints n r: n PEs with the words r
 --     ended w l           the words l of the PEs, and the fence word w after them
 --     fencing w l e       the state `ended w l`, and interrupt 7 with the words e; live l e: with the fence word 0
 --     idle                nobody stopped; interrupt 7 is PE 2's, with server 5, priority 6, P = Q = 0
---     states a b c d      the state of four PEs with these words, with the interrupts of `idle`; endpointAt w r v a, endpoint w r v: PE 2's words are
+--     states a b c d      the state of four PEs with these words, with the interrupts of `idle`; endpoint_at w r v a, endpoint w r v: PE 2's words are
 --                         such a row, the others' 0
 --     stopped             every PE stopped, with empty records
 --     quiet n             the state of n PEs, all words 0, and no interrupt
 --     empty, words a v m  a memory of 2,600 words, all 0; memory m with word v at address a
---     dma .. refuseAt     requests and the answers pass and refuse, in bare numbers
---     row                 a row; keeps: nothing changes; refuses: a refusal that changes nothing, with no word read; freezesAt: on `idle`, a refusal
+--     dma .. refuse_at    requests and the answers pass and refuse, in bare numbers
+--     row                 a row; keeps: nothing changes; refuses: a refusal that changes nothing, with no word read; freezes_at: on `idle`, a refusal
 --                         that freezes PE 2 alone, with its number and value in the error record, and the address of a table word in both; freezes:
 --                         with none
 -- Assumes nothing.

@@ -1,6 +1,6 @@
 -- 01, 'Cases': A to J, in one table with one statement over it: the whole answer, and all words that may change.
 --     cases               a row for each request of 01's cases
---     cases-hold          THE STATEMENT: the definition gives each row's answer, and leaves what the row says
+--     cases_hold          THE STATEMENT: the definition gives each row's answer, and leaves what the row says
 -- Assumes nothing.
 use Rattle.std.specs.Prelude.{◌≡◌, refl, List, [], ◌∷◌, map, ℕ, replicate}
 use Rattle.kinds.specs.Answer.{refuse}

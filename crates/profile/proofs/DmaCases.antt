@@ -1,10 +1,10 @@
 -- The order of the checks of a DMA, the classes of addresses, and what a translation entry says before memory is read.
---     dmaChecks           1, 2, 3, 4, then class: each neighbouring pair where both conditions hold and the first decides
+--     dma_checks          1, 2, 3, 4, then class: each neighbouring pair where both conditions hold and the first decides
 --     classes             reason 5 for the top four address bits 2 to 15; the edges of the MSI windows; bit 59
---     badEntries          reason 6, each breach alone; before 7 and 15
+--     bad_entries         reason 6, each breach alone; before 7 and 15
 --     outside             reason 7, before 8 and 15
---     goodEntries         the entries at the limits that are good, and the edges of a bypass
---     dmaCases            all of them
+--     good_entries        the entries at the limits that are good, and the edges of a bypass
+--     dma_cases           all of them
 -- Assumes nothing.
 use Rattle.std.specs.Prelude.{List, [], ◌∷◌, ◌++◌, map, ℕ, ◌+◌, ◌-◌, ◌*◌, ◌^◌}
 use Rattle.kinds.specs.declared.answer.Reason.{Reason}

@@ -1,14 +1,14 @@
 -- 02, [9]: who sets and clears the fence, what it stops and where 18 stands among the other reasons, and what still works.
 --     fatal               fatal messages: 1 and 3 only, obeyed when stopped and when fenced; no PE is frozen, and the other bits of the word stay
 --     cleared             fence clears: 1 only
---     fencedDma           DMA and MSI: 18 after 1 and 2, before 3, 4 and all later reasons; nothing changes
---     fencedAccess        loads and stores: 18 after 1 and 2, before 10 and 11, with all ones of the width, or dropped
---     fencedMessages      error messages: 18 after 1, before 3
+--     fenced_dma          DMA and MSI: 18 after 1 and 2, before 3, 4 and all later reasons; nothing changes
+--     fenced_access       loads and stores: 18 after 1 and 2, before 10 and 11, with all ones of the width, or dropped
+--     fenced_messages     error messages: 18 after 1, before 3
 --     working             firmware on a fenced bridge
 --     apart               the fence word is no PE's: a peer bit N, a clear of PE N
---     fenceCases          all of them
---     Fencing             an effect on the fence, done directly, on any state; fenceRows: rows of it
---     fences-hold         THE STATEMENT over them: the definition leaves what the row says
+--     fence_cases         all of them
+--     Fencing             an effect on the fence, done directly, on any state; fence_rows: rows of it
+--     fences_hold         THE STATEMENT over them: the definition leaves what the row says
 -- Assumes nothing.
 use Rattle.std.specs.Prelude.{◌≡◌, refl, Bool, true, false, List, [], ◌∷◌, ◌++◌, map, ℕ, ◌-◌, ◌*◌, ◌^◌, replicate}
 use Rattle.kinds.specs.Answer.{refuse}

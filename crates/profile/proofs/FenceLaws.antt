@@ -1,7 +1,7 @@
 -- Laws of the fence by itself.
 --     shut-cases          what it answers is one of three
 --     fence-other         a word of the state that is not the fence word stays when the fence changes
---     fence-upper         and so do all bits of the fence word but the lowest, which is then what was asked (fence-lowest), if the state has the word
+--     fence-upper         and so do all bits of the fence word but the lowest, which is then what was asked (fence_lowest), if the state has the word
 -- Assumes nothing.
 use Rattle.std.specs.Prelude.{◌≡◌, Bool, true, false, List, ℕ, ◌+◌, ◌*◌, ◌/◌, ◌%◌, ◌<◌, length}
 use Rattle.std.proofs.Common.{arith, get_or-set_same, get_or-set_other, eq-eqb, ne_eqb}

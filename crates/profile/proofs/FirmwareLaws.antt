@@ -1,6 +1,6 @@
 -- An interrupt is left waiting below priority 255 only where it was met so. docs/MSI-DIFFERENCES.md says why it matters.
 --     waits n b           Q alone is set in state b, and priority n is not 255
---     waitsAfter x        effect x leaves an interrupt so
+--     waits_after x       effect x leaves an interrupt so
 --     arrives-waits       an arriving MSI leaves no interrupt so; ends-waits: nor does an end
 --     prioritized-waits   a new priority leaves an interrupt so only where it was met so
 -- Assumes nothing.

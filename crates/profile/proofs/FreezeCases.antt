@@ -1,18 +1,18 @@
 -- Error messages, freezing alone and with peers, and release by firmware.
 --     messages            1 before 3, and 3; a message of a PE that is stopped is obeyed
---     peerCases           which PEs are peers, and what they get
+--     peer_cases          which PEs are peers, and what they get
 --     refusals            each of the seven reasons that freeze, on tables where the PE lists all: no other PE gets a stop bit or a record, and a peer is
 --                         served as before. An error message there stops all
 --     records             what stands in a state already: error records, senseless words, upper bits of stop words
---     wideCases           256 PEs: the words and bits of a peer vector; no interrupt at all
+--     wide_cases          256 PEs: the words and bits of a peer vector; no interrupt at all
 --     clears              each part alone; 14
---     freezeCases         all of them
---     Acting              an effect at a PE, done directly, on tables that reason 1 would refuse too; freezingBy, freezing: of a freeze
+--     freeze_cases        all of them
+--     Acting              an effect at a PE, done directly, on tables that reason 1 would refuse too; freezing_by, freezing: of a freeze
 --     bounds              states of more words than N PEs have, and of fewer; a freeze alone; a table word and peers
---     bounds-hold         THE STATEMENT over them: the definition leaves what the row says
+--     bounds_hold         THE STATEMENT over them: the definition leaves what the row says
 --     misfits             freezes that go with no such answer: by the flag, by the reason, by both, or by the table word
---     misfits-hold        none of them fits
---     miswords            answers that name a table word under another reason; miswords-hold: none of them is worded
+--     misfits_hold        none of them fits
+--     miswords            answers that name a table word under another reason; miswords_hold: none of them is worded
 -- Assumes nothing.
 use Rattle.std.specs.Prelude.{◌≡◌, refl, Bool, true, false, List, [], ◌∷◌, ◌++◌, map, ℕ, ◌+◌, ◌-◌, ◌*◌, ◌^◌, replicate}
 use Rattle.kinds.specs.Answer.{refuse}

@@ -6,7 +6,7 @@
 --     order               every other check comes first, where both conditions hold
 --     untested            what the size does not touch: the table words that a walk reads, MSI, loads and stores, messages and firmware
 --     leaves              17 on a record that is not empty, on one with words left over, on a PE that is MMIO stopped
---     installedCases      all of them
+--     installed_cases     all of them
 -- Assumes nothing.
 use Rattle.std.specs.Prelude.{List, [], ◌∷◌, ◌++◌, ℕ, ◌+◌, ◌-◌, ◌^◌}
 use Rattle.kinds.specs.declared.answer.Answer.TheVariants.{Msi, Done}

@@ -1,8 +1,8 @@
 -- 02, [7]: what the installed size does to a request, on any tables.
 --     limited i q o       outcome o of the DMA q, where size i is tested after all else: a pass whose last byte is not below i becomes 17, and any other
---                         outcome stays; limitedBy i q o a: by its answer a; limitedIn i q o: of any request, where others than DMAs keep theirs
---     decidedAt i f m s q     answer and effect on the tables f, with size i in place of their own
---     size-last           THE LAW: under a size i that is not above j, a request is decided as under j and then limited to i. So the size is tested
+--                         outcome stays; limited_by i q o a: by its answer a; limited_in i q o: of any request, where others than DMAs keep theirs
+--     decided_at i f m s q    answer and effect on the tables f, with size i in place of their own
+--     size_last           THE LAW: under a size i that is not above j, a request is decided as under j and then limited to i. So the size is tested
 --                         LAST, and MSI, loads, stores, messages and firmware are UNTOUCHED
 --     pass-installed      a DMA that passes ends below the installed size: NOTHING passes above it
 -- Assumes nothing.

@@ -7,7 +7,7 @@
 --     depths              page tables that can be walked, and that cannot
 --     forms               lengths of a DMA, widths of a load and a store, priorities
 --     limits              all of them
---     limits-hold         THE STATEMENT: each test gives what its row says
+--     limits_hold         THE STATEMENT: each test gives what its row says
 -- Assumes nothing.
 use Rattle.std.specs.Prelude.{◌≡◌, refl, Bool, true, false, cond, List, [], ◌∷◌, ◌++◌, map, ℕ, ◌+◌, ◌-◌, ◌*◌, ◌^◌, eqb}
 use Rattle.kinds.specs.declared.request.Part.TheVariants.{Mmio}

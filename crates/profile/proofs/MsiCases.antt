@@ -1,13 +1,13 @@
 -- MSI delivery, and the firmware requests of an interrupt: P and Q, numbers, and each condition of reasons 9 and 14.
 --     arrivals            an arriving MSI for each P, Q and priority 255 or not
 --     numbers             the number: data ORed with address bits, and what is ignored
---     bitsOfNumbers       the number itself, bit for bit, in both windows; numbers-hold: THE STATEMENT over them
---     badMsi              reason 9, each condition alone
+--     bits_of_numbers     the number itself, bit for bit, in both windows; numbers_hold: THE STATEMENT over them
+--     bad_msi             reason 9, each condition alone
 --     endings             the end of an interrupt, for each P, Q and priority 255 or not
 --     priorities          a priority set, from 255 and to 255 or not, for each P and Q
---     badInterrupts       1 before 2, 2 before 14, and each condition of 14
---     msiCases            all of them
---     lastInterrupts      4,096 interrupts: the last in both windows, number 4,096; one interrupt more
+--     bad_interrupts      1 before 2, 2 before 14, and each condition of 14
+--     msi_cases           all of them
+--     last_interrupts     4,096 interrupts: the last in both windows, number 4,096; one interrupt more
 -- Assumes nothing.
 use Rattle.std.specs.Prelude.{◌≡◌, refl, List, [], ◌∷◌, ◌++◌, map, ℕ, ◌+◌, ◌-◌, ◌*◌, ◌^◌, replicate}
 use Rattle.kinds.specs.declared.answer.Answer.{Answer}

@@ -1,12 +1,12 @@
 -- 01, 'Lent tables', on whom a request belongs to: every kind of request, good, badly formed, refused for each reason, at and past each limit, of
 -- nobody, and on tables too short to hold the word of its PE, in one table with one statement over it.
 --     Owning              a row of the tables of cases, and the owner of its request: mine p, PE p; nobodys r, nobody with the refusal r
---     dmaOwners           DMAs, error messages and fatal ones
---     accessOwners        loads and stores: badly formed ones too belong to the PE of their window
---     firmwareOwners      clears, ends and priorities; a fence clear, which is nobody's and is obeyed; words that name no request
---     shortOwners         tables that reason 1 refuses: a PE word that a table does not have is nobody's, and not PE 0's
+--     dma_owners          DMAs, error messages and fatal ones
+--     access_owners       loads and stores: badly formed ones too belong to the PE of their window
+--     firmware_owners     clears, ends and priorities; a fence clear, which is nobody's and is obeyed; words that name no request
+--     short_owners        tables that reason 1 refuses: a PE word that a table does not have is nobody's, and not PE 0's
 --     owners              all of them
---     owners-hold         THE STATEMENT: the definition gives each row's owner; owners-answered: and its answer, which shows what it is a row of
+--     owners_hold         THE STATEMENT: the definition gives each row's owner; owners-answered: and its answer, which shows what it is a row of
 -- Assumes nothing.
 use Rattle.std.specs.Prelude.{◌≡◌, refl, List, [], ◌∷◌, ◌++◌, map, ℕ, ◌+◌, ◌-◌, ◌*◌, ◌^◌, replicate}
 use Rattle.kinds.specs.declared.answer.Answer.TheVariants.{Msi, Ones, Drop, Done}

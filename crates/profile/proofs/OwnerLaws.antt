@@ -1,9 +1,9 @@
 -- Laws of whom a request belongs to.
---     ownerIn-cases       THE OWNERS: a PE below N, or nobody with 2, 3, 10 or 14
---     owner-below         so a PE that a request belongs to is below N (Below n o: the owner o is below n, or nobody); ownerIn-below: by the tables
---     ownerIn-reads       of the interrupts the owner depends on the PE words alone
+--     owner_in-cases      THE OWNERS: a PE below N, or nobody with 2, 3, 10 or 14
+--     owner-below         so a PE that a request belongs to is below N (Below n o: the owner o is below n, or nobody); owner_in-below: by the tables
+--     owner_in-reads      of the interrupts the owner depends on the PE words alone
 --     owner-keeps         so no request changes what belongs to whom
---     owner-agrees        and on two bridges that agree in what a group sees a request belongs to the same PE, or to nobody with the same refusal
+--     owner_agrees        and on two bridges that agree in what a group sees a request belongs to the same PE, or to nobody with the same refusal
 --     missing-nobody      a request whose PE word is in a table too short to hold it belongs to nobody
 -- Assumes nothing.
 use Rattle.std.specs.Prelude.{◌≡◌, Bool, false, cond, List, ℕ, ◌<◌, ◌≤◌, ltb, length}

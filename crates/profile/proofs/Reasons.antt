@@ -2,7 +2,7 @@
 -- statement over it. The rows stand by kind of request in DmaCases, WalkCases, InstalledCases, MsiCases, AccessCases, FreezeCases and
 -- FenceCases; whom a request belongs to is the table of OwnerCases.
 --     reasons             all of them
---     reasons-hold        THE STATEMENT: the definition gives each row's answer, and leaves what the row says
+--     reasons_hold        THE STATEMENT: the definition gives each row's answer, and leaves what the row says
 -- Assumes nothing.
 use Rattle.std.specs.Prelude.{◌≡◌, refl, List, ◌++◌, map}
 use Rattle.profile.proofs.Case.{Case, given, stated}

@@ -1,15 +1,15 @@
 -- The laws of one request, on two bridges that agree in what a group sees. Each kind of request is looked at in the laws of `owner_in`
 -- (OwnerLaws) and of `ask`, once in each; nothing below them depends on the kind.
---     ask-agrees          a member's request comes to the same on both, as far as no memory is read
---     checked-agrees      so all checks before the walk give the same
---     vector-agrees       a PE has the same peer vector on both
+--     ask_agrees          a member's request comes to the same on both, as far as no memory is read
+--     checked_agrees      so all checks before the walk give the same
+--     vector_agrees       a PE has the same peer vector on both
 --     Walkable, checked-walks     a page table is walked only for an address of the DMA class, by the entry of the owner that the address picks
---     finish-agrees       and what is left is the same by the walk
---     decided-agrees      AN OWN REQUEST is answered alike (answered-agrees), and has the same effect
---     after-agrees        so it keeps what the group sees
---     after-unseen        ANOTHER'S REQUEST is not seen, whatever effect it has, but on the fence
+--     finish_agrees       and what is left is the same by the walk
+--     decided_agrees      AN OWN REQUEST is answered alike (answered_agrees), and has the same effect
+--     after_agrees        so it keeps what the group sees
+--     after_unseen        ANOTHER'S REQUEST is not seen, whatever effect it has, but on the fence
 --     checked-owner       where a check is ready with an outcome or asks for a walk, it names the owner; unowned-cases: what a request of nobody comes to
--- A new kind of request adds a clause to ownerIn-cases, ownerIn-reads, ask-agrees, ask-walks, unowned-cases and ask-owner; one that has an effect of its own
+-- A new kind of request adds a clause to owner_in-cases, owner_in-reads, ask_agrees, ask-walks, unowned-cases and ask-owner; one that has an effect of its own
 -- adds that effect to the laws of `ActLaws`; one that reads a table adds what it reads of it to `Alike`, `Same` or `Held`.
 -- Assumes nothing.
 use Rattle.std.specs.Prelude.{◌≡◌, Bool, cond, ◌&&◌, List, ℕ, ◌/◌, ◌%◌, ◌<◌, eqb, length}

@@ -3,9 +3,9 @@
 --     levels              1 to 5 levels; tables that lead to themselves, to address 0, or on by a word of the other direction
 --     forbidden           reason 8: the last word, an upper word, a lower table misaligned; before 15
 --     missing             reason 15, at the first word and at later ones, and the last word of memory
---     walkCases           all of them
+--     walk_cases          all of them
 --     Translating         a memory, an entry, a direction and an offset, and its translation: the address or the fault with its word, and the words read
---     translations        each way that a translation ends, by the addresses of words; translations-hold: THE STATEMENT over them
+--     translations        each way that a translation ends, by the addresses of words; translations_hold: THE STATEMENT over them
 -- Assumes nothing.
 use Rattle.std.specs.Prelude.{◌≡◌, refl, List, [], ◌∷◌, ◌++◌, map, ℕ, ◌/◌}
 use Rattle.kinds.specs.declared.answer.Reason.{Reason}

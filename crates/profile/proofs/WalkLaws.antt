@@ -1,11 +1,11 @@
 -- What a walk depends on: its entry, the words at the places that it reads, the length of memory, and nothing else.
---     walk-zero, walk-suc no level, and one level of the walk with the levels below not unfolded
---     goesOn k n w        word w leads on, and there is a level below
+--     walk_zero, walk_suc no level, and one level of the walk with the levels below not unfolded
+--     goes_on k n w       word w leads on, and there is a level below
 --     first_read          the place of a level's word is among those read
 --     later-read          so is every place that the level below reads, where the word leads on
 --     walk-cases          a place that is read is this level's, or one that the level below reads where the word leads on
 --     turn-reads          what a word comes to depends on the level below only where the word leads on
---     walkFrom-reads      THE FOOTPRINT: two memories of one length, with the same words at the places that the walk reads in the first, give the
+--     walk_from-reads     THE FOOTPRINT: two memories of one length, with the same words at the places that the walk reads in the first, give the
 --                         same walk, so the same places
 --     walk-reads, reads-reads, translated-reads   the same of the walk by an entry for an offset, of the places read for it, of its translation
 --     paged-walkable      a good entry with pages has a table that can be walked; pages-is: where it is walked, that is the translation

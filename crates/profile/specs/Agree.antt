@@ -4,9 +4,9 @@
 --     obeyed f m s q      the fatal message or fence clear that request q is, if it is one and is answered done
 --     Closed G f          no PE outside the group lists a member in its peer vector; members may list PEs outside. A number of N and above
 --                         may be in G: no request belongs to it, and bits for it are ignored
---     peOf i              the PE that word i of the state belongs to
---     seenWord i x        what counts of word i, of value x, of the state: of a stop word the lowest two bits, of another word all
---     interruptPe s i     the PE that interrupt i belongs to
+--     pe_of i             the PE that word i of the state belongs to
+--     seen_word i x       what counts of word i, of value x, of the state: of a stop word the lowest two bits, of another word all
+--     interrupt_pe s i    the PE that interrupt i belongs to
 --     Same G z s t        state and interrupts, z being N, M and R: lengths, the group's words, the fence word, the PE word of each of M interrupts, the
 --                         interrupt records of the group
 --     Alike G f g         the fixed tables: sizes, the installed size, requesters, peers, windows, segments, the length of the entries, the entries of the group

@@ -1,20 +1,20 @@
 -- 01, 'DMA': the class of an address, the translation entry that it picks, and what the entry says before memory is read.
 --     class_of a           what address bits 63 to 60 ask for; within class 0, 0xFFFF0000..0xFFFFFFFF is the 32-bit MSI window
---     entryIn l p h       the first (h = 0) or second (h = 1) record of PE p in the table l of translation entries; entry f p h: in the tables f
---     mostTableCode ..    the largest table code; the bits of an index beyond it; the most levels
---     offsetBits          59, the bits of an offset; half a, offset a: the bit of the address above them, and its low 59 bits
---     pageSize e          the page size of page code 1, 5, 13 or 17: 2 ^ (code + 11) bytes
+--     entry_in l p h      the first (h = 0) or second (h = 1) record of PE p in the table l of translation entries; entry f p h: in the tables f
+--     most_table_code ..  the largest table code; the bits of an index beyond it; the most levels
+--     offset_bits         59, the bits of an offset; half a, offset a: the bit of the address above them, and its low 59 bits
+--     page_size e         the page size of page code 1, 5, 13 or 17: 2 ^ (code + 11) bytes
 --     page_of e o          the page of offset o, by that size
---     indexBits e         a table has 2 ^ (code + 8) words
+--     index_bits e        a table has 2 ^ (code + 8) words
 --     span e              page bits plus levels times index bits
 --     aligned n b         base b is a multiple of the bytes of a table of 2 ^ n words
---     tableGood e         table code 1 to 31
---     bypass e            page code 0; bypassGood e: start below end, end at most 2 ^ 35, in units of 16 MiB; inBypass e o: offset o is inside
---     pagesGood e         a known page code, 1 to 5 levels, an aligned base, a span of at most 59; pageTests e: these tests
+--     table_good e        table code 1 to 31
+--     bypass e            page code 0; bypass_good e: start below end, end at most 2 ^ 35, in units of 16 MiB; in_bypass e o: offset o is inside
+--     pages_good e        a known page code, 1 to 5 levels, an aligned base, a span of at most 59; page_tests e: these tests
 --     paged e             the entry is good and has pages
 --     walks e o           and offset o is inside them: the page table is walked
 --     walkable e          a table that can be walked at all: table code at most 31, at most 5 levels, at most 59 bits of all indexes, an aligned
---                         base. Every entry that walks is so; walkableTests e: these tests
+--                         base. Every entry that walks is so; walkable_tests e: these tests
 --     unwalked e o        else: bypass, 6 or 7, with no word of memory asked for, so none that failed
 -- Assumes nothing.
 use Rattle.std.specs.Prelude.{Bool, cond, not, ◌&&◌, ◌||◌, List, [], ◌∷◌, ℕ, ◌+◌, ◌*◌, ◌/◌, ◌%◌, ◌^◌, leb, ltb, eqb}

@@ -1,12 +1,12 @@
 -- 02, [9]: the fence. Its word stands after those of the PEs, is no PE's, and is public.
---     fenceWord n         the place of the fence word in the state of n PEs
+--     fence_word n        the place of the fence word in the state of n PEs
 --     fenced w            bit 0 of a fence word is set: the bridge is fenced
---     withFence b w       the fence word w with bit 0 set or, for false, clear: its other bits stay
---     fenceTo n b l       the state l of n PEs after it
+--     with_fence b w      the fence word w with bit 0 set or, for false, clear: its other bits stay
+--     fence_to n b l      the state l of n PEs after it
 --     stops q             the fence stops such a request: DMA and MSI, loads, stores and error messages; no fatal message, and nothing of firmware's
 --     barred w q          it stops q, w being the fence word
 --     shut q              what q is then answered: 18, a load with all ones of its width, a store dropped
---     Event, kind q       the two kinds of request that change the fence, and which of them q is, if one; fenceBit e: what the fence bit becomes by it
+--     Event, kind q       the two kinds of request that change the fence, and which of them q is, if one; fence_bit e: what the fence bit becomes by it
 -- Assumes nothing.
 use Rattle.std.specs.Prelude.{Bool, true, false, cond, ◌&&◌, List, ℕ, ◌+◌, ◌*◌, ◌/◌, ◌%◌, eqb, set}
 use Rattle.std.proofs.Math.Option.{Option, none, some}

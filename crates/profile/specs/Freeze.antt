@@ -1,17 +1,17 @@
 -- 01, 'Answers', on stop bits, error records and freezing.
---     stopWord p, reasonWord p, valueWord p, failedWord p     the places of the words of PE p in the state: its stop bits, and its error record, the
+--     stop_word p, reason_word p, value_word p, failed_word p  the places of the words of PE p in the state: its stop bits, and its error record, the
 --                         last word of which is the address of the table word that failed
---     mmioStopped w       bit 0 of a stop word is set
---     dmaStopped w        bit 1 of a stop word is set
---     vectorIn l p        the peer vector of PE p in the peers table l
+--     mmio_stopped w      bit 0 of a stop word is set
+--     dma_stopped w       bit 1 of a stop word is set
+--     vector_in l p       the peer vector of PE p in the peers table l
 --     vector f p          the same in tables f; PE k is in it where `bit_of (vector f p) k`
---     noPeers             the vector that lists nobody; taken b l p: the vector of PE p in the peers l, or `no_peers`
---     errorWords e        the words of error record e; asPeer p: the record of a peer, 13 and the failing PE's number, without a table word
+--     no_peers            the vector that lists nobody; taken b l p: the vector of PE p in the peers l, or `no_peers`
+--     error_words e       the words of error record e; as_peer p: the record of a peer, 13 and the failing PE's number, without a table word
 --     marked e o i x      word i, of value x, of a PE that is stopped: both stop bits set, the others kept; the record is written only if its reason,
 --                         which was o, is 0
 --     frozen v p e l      how a freeze of PE p with peer vector v and record e rewrites each word of the state l. The failing PE gets e, a peer the
 --                         record of a peer, and a PE in its own vector counts as the failing one
---     ofPes n rule        a rule for the words of the PEs below n: the words after them stay
+--     of_pes n rule       a rule for the words of the PEs below n: the words after them stay
 --     froze n v p e l     the state l after it. Bits for N and above are ignored, whatever words the state has
 --     released c p l      the state after firmware cleared part c of PE p, alone
 -- Assumes nothing.

@@ -1,10 +1,10 @@
 -- 01, 'MSI'.
---     interruptIn l i     the record of interrupt i in the interrupts l; interrupt s i: in what is written
+--     interrupt_in l i    the record of interrupt i in the interrupts l; interrupt s i: in what is written
 --     stored p i n b l    the interrupts l after PE p wrote priority n and state b of interrupt i
 --     holding             255, the priority that holds every MSI; no priority is above it
 --     ranged e            server below 2 ^ 24, priority at most 255, state at most 3
 --     number32, number64  the number of an MSI: the low five bits of data ORed with address bits 15..4 or 19..4
---     msiFormed d a n     a write (isWrite d) of 4 bytes at a multiple of 4
+--     msi_formed d a n    a write (is_write d) of 4 bytes at a multiple of 4
 --     presents p b        an arriving MSI is presented: priority below 255 and P = 0. Else it is held
 --     arrived p b         2P + Q afterwards: P set where it is presented, Q set where it is held; announced i v p b: the answer, msi or held
 --     arrives i e         what an arriving MSI comes to

@@ -1,8 +1,8 @@
 -- 01, 'Lent tables', on whom a request belongs to.
---     ofRequester n c l r the PE of requester r in the requesters l, c being R and n being N: R or above is unknown, and so is a PE of N or above
---     ofInterrupt n c l i the PE of interrupt i in the interrupts l, c being M: below M, its PE word below N
---     ofHit n h           the PE of the window that an address hits
---     ownerIn z r w g l q the PE that request q belongs to, or nobody with the refusal that it then gets (3, 10 or 14), by the requesters r, the
+--     of_requester n c l r the PE of requester r in the requesters l, c being R and n being N: R or above is unknown, and so is a PE of N or above
+--     of_interrupt n c l i the PE of interrupt i in the interrupts l, c being M: below M, its PE word below N
+--     of_hit n h          the PE of the window that an address hits
+--     owner_in z r w g l q the PE that request q belongs to, or nobody with the refusal that it then gets (3, 10 or 14), by the requesters r, the
 --                         windows w, the segments g and the interrupts l. A load or store belongs to the PE of its window, badly formed or not; a
 --                         firmware request to the PE that it names, or to the PE of its interrupt. A fence clear names none: it belongs to nobody,
 --                         and is obeyed all the same (Step, `unowned`). Words that name no request belong to nobody, and so does a request whose

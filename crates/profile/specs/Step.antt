@@ -1,15 +1,15 @@
 -- One request, from its checks to what it leaves: 01, the order of checks of each kind of request.
---     formed q            not reason 2: it depends on the request alone, and words that name no request are never formed; dmaFormed a n,
---                         accessFormed a w: of a DMA, of a load or store
---     installedTo i a n   02, [7]: the last of the n bytes from system address a is below the installed size i
---     lastTest i n t      THE LAST TEST of a DMA of n bytes: a translated address t from which not all bytes are installed is the fault 17, which no
+--     formed q            not reason 2: it depends on the request alone, and words that name no request are never formed; dma_formed a n,
+--                         access_formed a w: of a DMA, of a load or store
+--     installed_to i a n  02, [7]: the last of the n bytes from system address a is below the installed size i
+--     last_test i n t     THE LAST TEST of a DMA of n bytes: a translated address t from which not all bytes are installed is the fault 17, which no
 --                         table word makes; the one place where the size is asked for
---     outcomeOf p a t n   the outcome of a DMA of PE p by a translation t with n words read: a pass, or the refusal of a fault, which freezes and
+--     outcome_of p a t n  the outcome of a DMA of PE p by a translation t with n words read: a pass, or the refusal of a fault, which freezes and
 --                         carries the word that failed; reached i p q t n: after the last test
---     byEntry i e p q     a DMA of PE p by the entry e that its address picks
+--     by_entry i e p q    a DMA of PE p by the entry e that its address picks
 --     served c k i e l p q    a DMA of a PE that is not stopped, by the class c of its address; e are the translation entries, l the interrupts, k is M,
 --                         i the installed size
---     dmaAsked k i e l w p q  a DMA of PE p whose stop word is w
+--     dma_asked k i e l w p q  a DMA of PE p whose stop word is w
 --     accessed h p w d    the answer to a load or store of PE p by its window h and its stop word w; d is that of a PE that is MMIO stopped
 --     ask p q             what the request q of PE p comes to, as far as no memory is read; unowned q r: of a request that belongs to nobody, r being the
 --                         refusal that it then gets. A fence clear needs no PE, and is not refused; asked q o: by its owner o
@@ -17,8 +17,8 @@
 --     checked ok .. q     ALL CHECKS BEFORE THE WALK: reason 1 (not ok), then 2, then 18, then the refusal that nobody gets (3, 10 or 14), then the rest
 --     finish i m x        what is left: the walk, the only reader of memory; arrived i p q t: the outcome of a DMA by a translation and its words
 --     act n v p e s       effect e at PE p, n being N and v the peers: it writes, and decides nothing; whole n e s: what it does to the word that is no
---                         PE's, the fence word; actBy f o e s: at the owner o, and that alone where it is nobody
---     checkedOn f n s q   the checks on a bridge's tables, n being the length of memory
+--                         PE's, the fence word; act_by f o e s: at the owner o, and that alone where it is nobody
+--     checked_on f n s q  the checks on a bridge's tables, n being the length of memory
 --     decided f m s q     answer and effect
 --     answered f m s q    the answer
 --     after f m s q       state and interrupts afterwards

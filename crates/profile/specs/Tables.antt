@@ -4,11 +4,11 @@
 --     Live                what is written: state and interrupts
 --     lengths f n s       the lengths of all lent tables, n being that of memory
 --     sized z l           not reason 1: no number and no length is off the table of 01, which has no range for the installed size. Its tests: limits z,
---                         of N, M and R; dmaLengths z l and
---                         otherLengths z l, of the tables that a DMA reads before its walk and memory, and of the others
---     entryWords ..       the words of a PE's translation entries, of one record, of a peer vector, of an interrupt, of a PE's state; of the windows
---     fenceWords          the words of the state after those of the PEs: the fence word, which is no PE's; stateLength n: the words of the state of n PEs
---     mostPes ..          the limits of N, M, R and memory
+--                         of N, M and R; dma_lengths z l and
+--                         other_lengths z l, of the tables that a DMA reads before its walk and memory, and of the others
+--     entry_words ..      the words of a PE's translation entries, of one record, of a peer vector, of an interrupt, of a PE's state; of the windows
+--     fence_words         the words of the state after those of the PEs: the fence word, which is no PE's; state_length n: the words of the state of n PEs
+--     most_pes ..         the limits of N, M, R and memory
 --     named r n k         the PE with number k, or nobody with refusal r: k is a PE where it is below N
 -- Assumes nothing.
 use Rattle.std.specs.Prelude.{Bool, cond, List, [], ◌∷◌, ◌++◌, ℕ, ◌+◌, ◌*◌, leb, ltb, eqb, length}

@@ -1,9 +1,9 @@
 -- 01, 'DMA', paragraph 'Walk': the walk of a page table, by page.
 --     place k n b q       the number of the memory word that page q has in the table at b, whose index has n bits, with k levels below it
---     nextBase w          bits 63..12 of an upper word: the base of the next table
+--     next_base w         bits 63..12 of an upper word: the base of the next table
 --     leads n w           an upper word that leads on: not both valid bits zero, and the next base aligned
 --     turn k n j w r      what the word at place j, of content w, comes to with k levels below, r being the walk of the level below
---     walkFrom m l n b q  the walk of l levels from the table at b
+--     walk_from m l n b q  the walk of l levels from the table at b
 --     walk m e q          the walk of page q by entry e
 --     Walked              what was found, with the address of the word that the walk stopped at, and the places of the words read, in order; a
 --                         word outside memory is not among those read
@@ -12,9 +12,9 @@
 --                         address of the word that forbids or is not there
 --     Translation         a system address or a fault, and the places of the words read: their number is the count in the answer
 --     translated m e d o  THE TRANSLATION of offset o by entry e: by the walk, or what the entry alone says. It knows no PE
---     walkedPage m e q    the walk of page q by any entry: one whose table cannot be walked at all reads nothing
---     byPages m e d o     what is left of the translation where the page table is walked: by that walk
---     readsBy e m o       the places of the memory words that it reads; reads f m p a: those of PE p for address a
+--     walked_page m e q   the walk of page q by any entry: one whose table cannot be walked at all reads nothing
+--     by_pages m e d o    what is left of the translation where the page table is walked: by that walk
+--     reads_by e m o      the places of the memory words that it reads; reads f m p a: those of PE p for address a
 -- Assumes nothing.
 use Rattle.std.specs.Prelude.{Bool, cond, not, ◌&&◌, List, [], ◌∷◌, ℕ, zero, suc, ◌+◌, ◌*◌, ◌/◌, ◌%◌, ◌^◌, ltb, eqb, length}
 use Rattle.kinds.specs.Number.{page_number, byte_address, word_bytes, word_address, no_word}

@@ -1,17 +1,17 @@
 -- 01, 'Loads and stores': the windows.
---     isPower k n x       x is a power of two from 2 ^ k to 2 ^ (k + n)
+--     is_power k n x      x is a power of two from 2 ^ k to 2 ^ (k + n)
 --     covers b n a        a is one of the n bytes from b
---     segmentOf b n a     the number of the segment of a, of 256 equal ones of the n bytes from b
---     m32Open b n c       M32 of base b, size n and PCI base c is open: 1 MiB to 4 GiB, both bases multiples of the size, the PCI side ending at or
+--     segment_of b n a    the number of the segment of a, of 256 equal ones of the n bytes from b
+--     m32_open b n c      M32 of base b, size n and PCI base c is open: 1 MiB to 4 GiB, both bases multiples of the size, the PCI side ending at or
 --                         below 2 ^ 32
---     m64Open w           an M64 window is open: 256 MiB to 2 ^ 50, its base a multiple of the size, mode 1 or 2
---     m32Words ..         the words of M32, which come first, of an M64 window, and the number of M64 windows
+--     m64_open w          an M64 window is open: 256 MiB to 2 ^ 50, its base a multiple of the size, mode 1 or 2
+--     m32_words ..        the words of M32, which come first, of an M64 window, and the number of M64 windows
 --     window ws k         M64 window k of the table
---     m64Pe w a           the number that window w gives as the PE of a: its PE word in mode 1, else the segment
---     m64 w a h           what window w gives where it takes a, else h; m64From ws n k a: the first of n windows from window k that takes a
+--     m64_pe w a          the number that window w gives as the PE of a: its PE word in mode 1, else the segment
+--     m64 w a h           what window w gives where it takes a, else h; m64_from ws n k a: the first of n windows from window k that takes a
 --     route ws ss a       the first open window that covers a: its PE's number, below N or not, and the PCI address. M32 first, then M64 0 to 15.
 --                         A word of a PE that a table does not have is no PE's number
---     onesOf w            all ones of w bytes
+--     ones_of w           all ones of w bytes
 -- Assumes nothing.
 use Rattle.std.specs.Prelude.{Bool, cond, ◌&&◌, ◌||◌, List, ℕ, zero, suc, ◌+◌, ◌-◌, ◌*◌, ◌/◌, ◌%◌, ◌^◌, leb, ltb, eqb}
 use Rattle.kinds.specs.Words.{at, pe_at}

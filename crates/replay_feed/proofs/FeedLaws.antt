@@ -1,6 +1,6 @@
 -- A piece does what the definition by bytes says.
 --     byte-fed            one byte that is not stuck
---     in-text             THE LAW, of every piece
+--     in_text             THE LAW, of every piece
 -- Assumes nothing.
 use Rattle.std.specs.Prelude.{◌≡◌, true, false, not, ◌&&◌, List, [], ◌∷◌, ℕ, suc, ◌+◌, ◌≤◌, ◌<◌, eqb, ltb, length, take, get_or}
 use Rattle.std.proofs.Math.Path.{refl}

@@ -1,6 +1,6 @@
 -- What the functions of a replay cite.
---     fit-not, fit-pending                whether the line's buffer fits, test by test
---     moved_on, moved-stays               what became of a line feed
+--     fit_not, fit-pending                whether the line's buffer fits, test by test
+--     moved_on, moved_stays               what became of a line feed
 -- Assumes nothing.
 use mathlib.Core.Path.{◌≡◌}
 use mathlib.Core.Bool.{true, false, ◌&&◌}

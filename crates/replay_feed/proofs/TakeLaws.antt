@@ -1,8 +1,8 @@
 -- What the functions over the bytes of an input cite.
---     keep-start, keep-byte, keep-over, keep-feed, keep-done      the bytes of a line: what is kept from the start is what is kept from here
---     moved-feed, moved_all               a line feed, and an input that ended before one
---     end_none, end-some, end-length, end-feed    the end of the input
---     Here, run-start, run-within, run_more, run-less, run-done   the lines of an input: the run from the start is the run from here, i bytes later
+--     keep_start, keep_byte, keep_over, keep_feed, keep_done      the bytes of a line: what is kept from the start is what is kept from here
+--     moved_feed, moved_all               a line feed, and an input that ended before one
+--     end_none, end-some, end_length, end_feed    the end of the input
+--     Here, run_start, run_within, run_more, run_less, run_done   the lines of an input: the run from the start is the run from here, i bytes later
 -- Assumes nothing.
 use mathlib.Core.Path.{◌≡◌, refl, sym, ap, subst, ◌∙◌}
 use mathlib.Core.Bool.{Bool, true, false, cond}

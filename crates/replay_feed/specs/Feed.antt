@@ -1,12 +1,12 @@
 -- A piece of the input, byte by byte, on all that a replay is lent.
 --     Buffer              the line's buffer and how many bytes of it are pending
---     kept b x            the buffer after byte x, which is no line feed: a line's first 128 bytes (lineKept) tell what it says; keptAll b l: after bytes l
---     bufferOf s          the buffer of a replay; withBuffer s b: another in its place
---     byteIn s x          where a replay stands after byte x: the byte is kept, or the line ends
+--     kept b x            the buffer after byte x, which is no line feed: a line's first 128 bytes (line_kept) tell what it says; kept_all b l: after bytes l
+--     buffer_of s         the buffer of a replay; with_buffer s b: another in its place
+--     byte_in s x         where a replay stands after byte x: the byte is kept, or the line ends
 --     stuck s x           byte x is a line feed whose line cannot end
 --     Fed                 where a replay stands, and the count of bytes taken; later n r: with n bytes more; stopped s: none was taken
---     feedAll s l         WHERE A REPLAY STANDS AFTER A PIECE: all bytes of l are taken up to the first line feed whose line cannot end
---     endBytes n          how many bytes the end of the input adds where n are pending
+--     feed_all s l        WHERE A REPLAY STANDS AFTER A PIECE: all bytes of l are taken up to the first line feed whose line cannot end
+--     end_bytes n         how many bytes the end of the input adds where n are pending
 --     end_of s             the end of the input: a missing line feed where bytes are pending, else nothing
 -- Assumes nothing.
 use Rattle.std.specs.Prelude.{Bool, cond, not, ◌&&◌, List, [], ◌∷◌, ℕ, suc, ◌+◌, eqb, ltb, take, set}

@@ -1,5 +1,5 @@
 -- What a piece does, in the words of the definition by bytes.
---     streamIn s          the stream that a replay is: the pending bytes, the count of output lines, and the session that the words in use are
+--     stream_in s         the stream that a replay is: the pending bytes, the count of output lines, and the session that the words in use are
 --     FedText s l f       after bytes l, of which f were taken, the stream is that of the definition, and what it says is written from the end of the output on;
 --                         bytes are left only where the next one is a line feed whose line cannot end
 --     InText              so it is of every piece, where the line's buffer fits; it goes on fitting, and no list changes its length

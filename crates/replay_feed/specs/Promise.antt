@@ -2,7 +2,7 @@
 --     KeptTo b l i k c    from place i of input l the bytes up to a line feed or the end were kept in buffer b: c, up to the place that k says
 --     MovedTo s l i t m   from place i of input l, a line was read and ended: the replay stands at t, and m says the place after those bytes and the place up
 --                         to which bytes can be taken: the end of l, or the same place, where the line cannot end
---     movedBy e j n       what the end of a line makes of its line feed at place j of an input of n bytes
+--     moved_by e j n      what the end of a line makes of its line feed at place j of an input of n bytes
 --     Started p           progress p is before the first byte, whatever the lent lists hold
 --     FedAs s l r c       a piece l was fed where the replay stood at s: r was returned and c are the lent lists afterwards
 -- Assumes nothing.

@@ -1,5 +1,5 @@
 -- What a line of each form cites.
---     ran-size, ran-set, ran-request, ran-bad
+--     ran_size, ran_set, ran-request, ran-bad
 -- Assumes nothing.
 use mathlib.Core.Path.{◌≡◌, refl}
 use Prim.Native.Nat.{ℕ}

@@ -1,8 +1,8 @@
 -- What the functions of the end of a line cite.
 --     counted-out, no_line, line-room     whether an output line has room, test by test
---     wrote-to, wrote_none                an output line, where there is room
---     closed-silent, closed-says, closed_none     what a reply writes
---     close-ended, close-stays            the end of a line that ran
+--     wrote_to, wrote_none                an output line, where there is room
+--     closed_silent, closed-says, closed_none     what a reply writes
+--     close_ended, close_stays            the end of a line that ran
 --     bytes-all, bytes-part               the pending bytes of the line's buffer
 -- Assumes nothing.
 use mathlib.Core.Path.{◌≡◌, refl, sym, ap, ◌∙◌}

@@ -1,6 +1,6 @@
 -- The lent tables after a line, as a session.
---     no-room-keeps       a line without room for its tables leaves the lent tables as they were
---     in-use-after        the words in use after a line are the session after it; where there is no room for it, the same session
+--     no_room_keeps       a line without room for its tables leaves the lent tables as they were
+--     in_use_after        the words in use after a line are the session after it; where there is no room for it, the same session
 -- Assumes nothing.
 use Rattle.std.specs.Prelude.{◌≡◌, refl, true, false, cond}
 use Rattle.kinds.proofs.Tests.{by_cases, clash}

@@ -1,9 +1,9 @@
 -- What the end of a line is promised to do.
 --     EndedTo s e t       at s, the line ended as e says and left t
 --     RanTo s e t         the same of a line that the output and its count have room for
---     hadRoom r           reply r is of a line for which the tables had room
---     closedBy a n r      the end of the output and the count of its lines after reply r
---     ranBy a b n r       the same of a line with b bytes pending that ran
+--     had_room r          reply r is of a line for which the tables had room
+--     closed_by a n r     the end of the output and the count of its lines after reply r
+--     ran_by a b n r      the same of a line with b bytes pending that ran
 -- Assumes nothing.
 use Rattle.std.specs.Prelude.{◌≡◌, Bool, true, false, cond, ℕ, ◌+◌, length}
 use Rattle.replay_text.specs.SessionIsolation.{SessionIsolation}

@@ -1,9 +1,9 @@
 -- What a line of a session is promised to do.
---     replyIn b l         what line l answers on lent tables b: NoRoom where the lists have no room for the tables of a size line
+--     reply_in b l        what line l answers on lent tables b: NoRoom where the lists have no room for the tables of a size line
 --     RanLine b l r c     on lent tables b, line l answered r and left c; and isolation holds of the definition of a session
 --     Requested b q r c   the same of a request
 --     ServedParts f m s ..  the same of a request on tables f and memory m, where s are the lent lists of state and interrupts: the words in use are
---                         their first ones (cutLive), and only those are changed (frontLive)
+--                         their first ones (cut_live), and only those are changed (front_live)
 -- Assumes nothing.
 use Rattle.std.specs.Prelude.{◌≡◌, cond, List, ℕ, ◌*◌, take}
 use Rattle.kinds.specs.Answer.{numbered}

@@ -1,13 +1,13 @@
 -- Where a replay stands: all that it is lent and all that it counts.
 --     Progress            (of the code) the extent of the tables, the count of bytes kept of the line, the count of output lines
 --     Standing            the lent tables, the line's buffer and how much of it is pending, the count of output lines, the output and where it ends
---     Buffers, buffers    the lent lists alone; buffersOf s: those of s; progressOf s: what is carried by value
+--     Buffers, buffers    the lent lists alone; buffers_of s: those of s; progress_of s: what is carried by value
 --     standing p b a      by progress, lent lists and the end of the output
---     lineIn s            what the pending bytes say as a line; replyNow s: what it answers; saidNow s: the bytes of that
---     lastCount           the count of output lines that no line can follow: it has 64 bits
+--     line_in s           what the pending bytes say as a line; reply_now s: what it answers; said_now s: the bytes of that
+--     last_count          the count of output lines that no line can follow: it has 64 bits
 --     free s              whether the line can end: one more output line can be counted, the output has room for one, and the tables for what the line asks
---     lineDone s          THE END OF A LINE: where it can end, it is done and answered, and no byte is pending; else nothing is changed
---     fits s              the line's buffer has 128 bytes (lineKept), and no more are pending
+--     line_done s         THE END OF A LINE: where it can end, it is done and answered, and no byte is pending; else nothing is changed
+--     fits s              the line's buffer has 128 bytes (line_kept), and no more are pending
 -- Assumes nothing.
 use Rattle.std.specs.Prelude.{Bool, cond, ◌&&◌, List, ℕ, ◌+◌, eqb, ltb, leb, length, take}
 use Rattle.std.proofs.lemmas.List.Edits.{sets}

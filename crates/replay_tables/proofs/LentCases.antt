@@ -1,8 +1,8 @@
 -- Every lent word after a line of each form, in one table with one statement over it.
 --     tables              one PE, interrupt and requester and two words of memory; each list has a word more than is in use
 --     LentCase            a line, and the lent tables after it
---     lentCases           size lines with room and without it; set lines to the last word in use and to the next one; requests; a bad line
---     lent-hold           THE STATEMENT: each line leaves what its row says
+--     lent_cases          size lines with room and without it; set lines to the last word in use and to the next one; requests; a bad line
+--     lent_hold           THE STATEMENT: each line leaves what its row says
 -- Assumes nothing.
 use Rattle.std.specs.Prelude.{◌≡◌, refl, List, [], ◌∷◌, ◌++◌, map, ℕ, replicate}
 use Rattle.kinds.specs.declared.request.Request.TheVariants.{Error, Priority, Fatal, FenceClear}

@@ -1,8 +1,8 @@
 -- Lent lists and the session that their words in use are.
 --     start-lent          with no sizes asked for, the lent lists are the session at the start, whatever they hold
---     sized-in-use        lists cleared for an extent that they have room for are the session of its tables, all words 0
---     set-in-use          a word set in a list, where a set line may set it, is set in the session
---     served-in-use       what a request leaves in the session is what it leaves of the words in use
+--     sized_in_use        lists cleared for an extent that they have room for are the session of its tables, all words 0
+--     set_in_use          a word set in a list, where a set line may set it, is set in the session
+--     served_in_use       what a request leaves in the session is what it leaves of the words in use
 --     after-lengths       no line changes the length of a list
 -- Assumes nothing.
 use Rattle.std.specs.Prelude.{◌≡◌, refl, Bool, true, false, cond, ◌&&◌, List, ◌∷◌, ℕ, zero, suc, ◌*◌, ◌≤◌, leb, ltb, length, take, drop, set, replicate}

@@ -1,5 +1,5 @@
 -- What a set line cites: one list with a word set is the lent tables with that word set.
---     set-requesters .. set-state     of each table
+--     set_requesters .. set_state     of each table
 -- Assumes nothing.
 use mathlib.Core.Path.{◌≡◌, refl, ◌∙◌}
 use mathlib.Core.Bool.{Bool, true}

@@ -1,7 +1,7 @@
 -- What a size line cites.
 --     pe-entries .. pe-state          whether the tables with words for each PE are long enough, test by test
 --     other-interrupts .. -segments   whether the others are
---     no-pes, pe-short, other-rooms   whether all are
+--     no_pes, pe-short, other_rooms_lem  whether all are
 --     sized-room, sized-none          the session after a size line
 -- Assumes nothing.
 use mathlib.Core.Path.{◌≡◌, refl, sym, ◌∙◌}

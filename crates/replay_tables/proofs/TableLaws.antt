@@ -1,6 +1,6 @@
 -- What the functions of one lent table cite.
---     no-state, fence-in, fence-out   how many words of a state are in use
---     word_set .. short-off   whether a word of the part in use is set
+--     no_state, fence_in, fence-out   how many words of a state are in use
+--     word_set .. short_off   whether a word of the part in use is set
 -- Assumes nothing.
 use mathlib.Core.Path.{◌≡◌, refl, sym, ◌∙◌}
 use mathlib.Core.Bool.{true}

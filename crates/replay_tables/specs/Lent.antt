@@ -1,18 +1,18 @@
 -- The lent tables of a replay, whole: every word of every lent list, and how many of them are in use.
 --     Extent              (of the code) what the last good size line asked for: N, M, R and the words of memory; zeros before the first one
 --     Lent, lent x q e .. the extent and the eight lent lists
---     stateUsed n         how many words the state of n PEs has: none where there is no PE
---     usedBy x t          how many words table t has in a bridge of extent x
---     inUse b             the session that the words in use are: the first words of each list
---     lengthsIn b         the lengths of the lent lists
+--     state_used n        how many words the state of n PEs has: none where there is no PE
+--     used_by x t         how many words table t has in a bridge of extent x
+--     in_use b            the session that the words in use are: the first words of each list
+--     lengths_in b        the lengths of the lent lists
 --     room_for l k         whether lists of lengths k can hold what line l asks for: a size line asks for tables of at least one PE, no other line for
---                         anything; peRoom, otherRoom: of the tables with words for each PE, and of the others; peRooms, otherRooms: table by table
+--                         anything; pe_room, other_room: of the tables with words for each PE, and of the others; pe_rooms, other_rooms: table by table
 --     list_of b t          the lent list of table t; with_list b t l: list l in its place
---     clearedTo x b       every word of every list 0, and extent x
---     sizedTo x b         after a size line for extent x: the lists cleared whole where there is room for it, else as they were
---     setIn t i v b       after a set line: one word where it may be set, else as they were
---     servedIn q b        after request q: state and interrupts as the bridge leaves the words in use, and all other words as they were
---     afterIn b l         THE LENT TABLES AFTER LINE l
+--     cleared_to x b      every word of every list 0, and extent x
+--     sized_to x b        after a size line for extent x: the lists cleared whole where there is room for it, else as they were
+--     set_in t i v b      after a set line: one word where it may be set, else as they were
+--     served_in q b       after request q: state and interrupts as the bridge leaves the words in use, and all other words as they were
+--     after_in b l        THE LENT TABLES AFTER LINE l
 -- Assumes nothing.
 use Rattle.std.specs.Prelude.{Bool, true, cond, ◌&&◌, List, [], ◌∷◌, ◌++◌, ℕ, ◌*◌, leb, length, take, drop, set, replicate}
 use Rattle.kinds.specs.Tests.{all}

@@ -1,6 +1,6 @@
 -- Lengths of numbers as text.
---     length_digits       k digits are k bytes; length-ended: a byte that ends a field is one more
---     places-most         a number has decimalDigits digits at most; decimal-most: so it takes that many bytes at most
+--     length_digits       k digits are k bytes; length_ended: a byte that ends a field is one more
+--     places-most         a number has decimal_digits digits at most; decimal-most: so it takes that many bytes at most
 --     decimal-room, hexadecimal-room    a number and the byte that ends it take no more than their room
 -- Assumes nothing.
 use Rattle.std.specs.Prelude.{◌≡◌, refl, List, [], ◌∷◌, ℕ, zero, suc, ◌+◌, ◌/◌, ◌%◌, ◌≤◌, ltb, length}

@@ -1,7 +1,7 @@
 -- What holds of every line: of a bad one, of a size line within its limits, of a set line, and of a request that is no fatal message and no fence clear.
---     every-line          THE LAW: no line says anything else
+--     every_line          THE LAW: no line says anything else
 --     sized-cases         a size line says the sizes, or is bad
--- A new kind of line adds a form to forms-hold.
+-- A new kind of line adds a form to forms_hold.
 -- Assumes nothing.
 use Rattle.std.specs.Prelude.{◌≡◌, refl, Bool, ◌&&◌, ℕ, ◌^◌, ltb, leb}
 use mathlib.Core.List.{List, [], ◌∷◌}

@@ -1,7 +1,7 @@
 -- Laws of fields and numbers.
 --     is_same             bytes that are the same are equal; is-other: bytes of another length are not the same
---     number-long         a field of more than 16 bytes is no number
---     total-fields        the bytes of a line are those of its fields, each with the byte that ends it
+--     number_long         a field of more than 16 bytes is no number
+--     total_fields        the bytes of a line are those of its fields, each with the byte that ends it
 -- Assumes nothing.
 use Rattle.std.specs.Prelude.{◌≡◌, refl, true, false, List, [], ◌∷◌, ℕ, ◌+◌, ◌<◌, eqb, length}
 use Rattle.std.proofs.Common.{ap, arith, le-leb, eqb-true}

@@ -1,5 +1,5 @@
 -- A list of forms is gone through word by word.
---     form-then, form-else, form-none    a first field is the first word of a list of forms, or it is not, or no word is left; picks: these three
+--     form_then, form_else, form_none    a first field is the first word of a list of forms, or it is not, or no word is left; picks: these three
 -- Assumes nothing.
 use Rattle.std.specs.Prelude.{◌≡◌, refl, Bool, true, false, List, [], ◌∷◌, ℕ}
 use Prim.Native.String.{String}

@@ -1,7 +1,7 @@
 -- Lines and what they say: every form, every limit and one past it, and lines of no form.
 --     sizes, stores, requests, others     the tables
 --     right               each line of the tables says what stands beside it
---     longest-good        a good line of 73 bytes; dmaRequest: a DMA in bare numbers
+--     longest-good        a good line of 73 bytes; dma_request: a DMA in bare numbers
 -- Assumes nothing.
 use Rattle.std.specs.Prelude.{◌≡◌, refl, List, [], ◌∷◌, map, ℕ, length}
 use Prim.Native.String.{String}

@@ -1,6 +1,6 @@
 -- The length of a name.
---     name-most           a name has nameMost letters at most
---     name-bad            from 7 on it is that of 7
+--     name_most_lem       a name has name_most letters at most
+--     name_bad            from 7 on it is that of 7
 -- Assumes nothing.
 use Rattle.std.specs.Prelude.{◌≡◌, List, [], ◌∷◌, ℕ, zero, suc, ◌≤◌, max, length, get_or}
 use Rattle.std.proofs.Common.{arith}

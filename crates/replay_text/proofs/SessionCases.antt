@@ -1,6 +1,6 @@
 -- What counts as a list of the claim, and whose replies it compares.
---     only-hold           request lines and bad lines count, size and set lines do not
---     requests-hold       the requests of a list, in order
+--     only_hold           request lines and bad lines count, size and set lines do not
+--     requests_hold       the requests of a list, in order
 -- Assumes nothing.
 use Rattle.std.specs.Prelude.{◌≡◌, refl, true, false, List, [], ◌∷◌, map}
 use Rattle.kinds.specs.declared.request.Request.TheVariants.{Error, End}

@@ -1,6 +1,6 @@
 -- Lengths of the lines that a replay writes.
---     head-most, tail-most    the two parts of a line are no longer than headMost and tailMost
---     line-most           no answer's line is longer than lineMost
+--     head_most_lem, tail_most_lem  the two parts of a line are no longer than head_most and tail_most
+--     line-most           no answer's line is longer than line_most
 -- Assumes nothing.
 use Rattle.std.specs.Prelude.{ℕ, ◌≤◌, length}
 use Rattle.std.proofs.Common.{arith, length-append}

@@ -1,5 +1,5 @@
 -- A replay byte by byte, in pieces of any length, writes what the definition by lines says.
---     fed-append, said-append     a piece after a piece
+--     fed_append, said_append     a piece after a piece
 --     bytes-lines                 the bytes of an input and its end write what its lines answer
 --     pieces-joined               pieces write what they write joined
 --     whole                       whatever the pieces: the header and what they write are the output of the whole input

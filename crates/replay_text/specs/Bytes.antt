@@ -1,6 +1,6 @@
 -- A text as bytes.
 --     bytes s             the bytes of a text of ASCII characters
---     tab, lineFeed       the byte that parts fields, the byte that ends a line
+--     tab, line_feed      the byte that parts fields, the byte that ends a line
 -- Assumes nothing.
 use Rattle.std.specs.Prelude.{List, [] as nil, ◌∷◌ as ◌cons◌, ℕ}
 use Prim.Native.Char.{code}

@@ -1,9 +1,9 @@
 -- Numbers as text.
---     decimal n           number n in decimal, with no zero in front; decimalDigits at most
---     hexadecimal v       value v in hexadecimalDigits digits
+--     decimal n           number n in decimal, with no zero in front; decimal_digits at most
+--     hexadecimal v       value v in hexadecimal_digits digits
 --     digits b k n        the last k digits of n in base b; places n: how many n has in decimal
---     endedBy b f         field f and the byte b that ends it
---     decimalRoom, hexadecimalRoom    the bytes of such a field at most
+--     ended_by b f        field f and the byte b that ends it
+--     decimal_room, hexadecimal_room  the bytes of such a field at most
 -- Assumes nothing.
 use Rattle.std.specs.Prelude.{cond, List, [], ◌∷◌, ◌++◌, ℕ, zero, suc, ◌+◌, ◌/◌, ◌%◌, ltb}
 

@@ -1,7 +1,7 @@
 -- The fields of a line, and the numbers that they hold.
 --     fields_of l          the fields of line l, parted at its tabs: one more than there are tabs
---     digitOf b           the value of byte b as a digit, `0` to `9` or `a` to `f`; 16 of any other byte
---     number_of f          the number in field f, of 1 to 16 digits, the first the highest; none of any other field; numberFrom v f: after digits that gave v
+--     digit_of b          the value of byte b as a digit, `0` to `9` or `a` to `f`; 16 of any other byte
+--     number_of f          the number in field f, of 1 to 16 digits, the first the highest; none of any other field; number_from v f: after digits that gave v
 --     only read fs        what the one field that is left holds; none where none or more are left
 --     is a b              the bytes a and b are the same
 -- Assumes nothing.

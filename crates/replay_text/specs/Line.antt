@@ -1,12 +1,12 @@
 -- What a line of replay text says.
 --     line_of l            what line l says: its first field picks the form that the other fields have to take; Bad where they do not
---     Form                what the fields after the first say; forms: the first fields, each with its form (sizeLine .. priorityLine);
---                         requestForms: those of requests; firmwareForms: those of firmware
+--     Form                what the fields after the first say; forms: the first fields, each with its form (size_line .. priority_line);
+--                         request_forms: those of requests; firmware_forms: those of firmware
 --     field read k        a form: a field that `read` takes, then the form that k gives for what was read
 --     final read k        a form: one more field, that `read` takes; the line says what k gives
 --     numbers k           a form: two more fields, both numbers
 --     tables, directions, parts    the names that a field can hold, each with what it names
---     sized, dma          a size line within its limits (mostPes and so on), a DMA whose data x are in 32 bits; else Bad
+--     sized, dma          a size line within its limits (most_pes and so on), a DMA whose data x are in 32 bits; else Bad
 -- All numbers are hexadecimal. A number that a request can hold and no table has (a requester of 2 ^ 20, a width of 3) makes no line bad: the bridge
 -- answers such a request. The limits of a set line's index and value are those of the tables and are asked where the sizes are known.
 -- Assumes nothing.

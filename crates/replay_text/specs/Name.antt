@@ -1,7 +1,7 @@
 -- The names of answers.
 --     names               those of answers 0 to 6
 --     name_of k            the name of answer number k; `bad` from 7 on
---     nameMost            the letters of a name at most
+--     name_most           the letters of a name at most
 -- Assumes nothing.
 use Rattle.std.specs.Prelude.{List, [], ◌∷◌, ℕ, get_or}
 use Rattle.replay_text.specs.Bytes.{bytes}

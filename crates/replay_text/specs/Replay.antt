@@ -1,6 +1,6 @@
 -- 01, 'Replay text': the whole output of an input.
 --     lines_from p l       the lines of bytes l, of which p is the start of the first; what follows the last line feed counts if it is not empty
---     text_of n r          the bytes that reply r writes after n output lines; countAfter n r: how many output lines there are then
+--     text_of n r          the bytes that reply r writes after n output lines; count_after n r: how many output lines there are then
 --     answers n s ls      the bytes that lines ls write, on session s and after n output lines
 --     output l            the output of input l
 -- Assumes nothing.

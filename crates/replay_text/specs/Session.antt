@@ -1,7 +1,7 @@
 -- 01, 'Replay text': what a line does to a session.
 --     Session             (of SessionTables) the tables, memory and what requests write
 --     Reply               (of the code) what a line writes: nothing (Silent), or an output line with these numbers (Says)
---     replyTo s l         what line l writes; afterLine s l: the session after it. A bad line changes nothing
+--     reply_to s l        what line l writes; after_line s l: the session after it. A bad line changes nothing
 -- Assumes nothing.
 use Rattle.std.specs.Prelude.{cond}
 use Rattle.kinds.specs.Answer.{numbered}

@@ -1,10 +1,10 @@
 -- DEMAND 3, of a session of replay text.
---     bridgeIn s          the bridge that a session is
---     requestsOnly l      list l has request lines and bad lines alone
---     requestsIn l        the requests of its lines, in order
---     ownReplies G s l    what the group's own request lines of l answer, in order, each on the session that the lines before it left: the numbers of an
+--     bridge_in s         the bridge that a session is
+--     requests_only l     list l has request lines and bad lines alone
+--     requests_in l       the requests of its lines, in order
+--     own_replies G s l   what the group's own request lines of l answer, in order, each on the session that the lines before it left: the numbers of an
 --                         output line but the first, which counts the neighbours' lines too
---     linesLeft s l       the session after the lines
+--     lines_left s l      the session after the lines
 --     SessionIsolation    THE CLAIM: `Isolation`, with lines in the place of requests
 --     session-isolation   THE THEOREM
 -- Assumes nothing.

@@ -1,6 +1,6 @@
 -- 01, 'Replay text': what a session holds.
 --     Session             the tables, memory and what requests write
---     replayInstalled     the installed size of every replay: 4 GiB
+--     replay_installed    the installed size of every replay: 4 GiB
 --     session z q e ..    a session by its words: sizes z, requesters q, entries e, memory m, peers p, interrupts n, windows w, segments g, state t
 --     start               before the first good size line: no tables, so that every request is 1 and every set line is bad
 --     emptied n m r w     after a good size line: all tables of these sizes, all words 0

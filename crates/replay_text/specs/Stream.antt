@@ -1,11 +1,11 @@
 -- A replay byte by byte.
 --     Stream              the first bytes of the line that has not ended, the count of output lines, and the session
---     held p b            the line's first bytes after one more: a line's first 128 bytes (lineKept) tell what it says
---     before l            the count of bytes of l before its first line feed; heldAll p l: the line's first bytes after all of l
+--     held p b            the line's first bytes after one more: a line's first 128 bytes (line_kept) tell what it says
+--     before l            the count of bytes of l before its first line feed; held_all p l: the line's first bytes after all of l
 --     reply s             what the line of s answers
 --     ended s             the stream after the end of its line; ending s: what that writes
 --     fed s b             the stream after byte b; said s b: what that writes
---     fedAll, said_all     of a list of bytes
+--     fed_all, said_all    of a list of bytes
 --     closing s           what the end of the input writes
 --     begin               before the first byte
 -- Assumes nothing.

@@ -1,9 +1,9 @@
 -- The lines that a replay writes.
 --     header              the first line
---     answerLine n x      output line n: n, the answer's name, its reason, its value and its count of table words, parted by tabs, with a line feed
---     head_of, tailOf      the first two fields of a line, and the other three
---     headMost, tailMost, lineMost    their bytes at most, and those of a line; nameRoom: of a name and the tab after it
---     badNumbers          what a bad line answers
+--     answer_line n x     output line n: n, the answer's name, its reason, its value and its count of table words, parted by tabs, with a line feed
+--     head_of, tail_of     the first two fields of a line, and the other three
+--     head_most, tail_most, line_most  their bytes at most, and those of a line; name_room: of a name and the tab after it
+--     bad_numbers         what a bad line answers
 -- Assumes nothing.
 use Rattle.std.specs.Prelude.{List, ◌++◌, ℕ, ◌+◌}
 use Rattle.replay_text.specs.Bytes.{bytes, tab, line_feed}

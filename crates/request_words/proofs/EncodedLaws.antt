@@ -1,6 +1,6 @@
 -- The words of requests are decoded as these requests, wherever they stand.
 --     decoded-encoded     the words of a request, after v and before y
---     length-encoded      their number; length-wordsOf: of a list of requests
+--     length_encoded      their number; length_words_of: of a list of requests
 --     requests-back       the first n requests of the words of a list, whatever follows, are the first n of the list
 -- Assumes nothing.
 use Rattle.std.specs.Prelude.{◌≡◌, refl, List, [], ◌∷◌, ◌++◌, ℕ, zero, suc, ◌*◌, ◌^◌, ◌<◌, ◌≤◌, length, take}

@@ -1,11 +1,11 @@
 -- Requests in words, number by number: one of each kind, direction and part, and words that name none.
 --     eight a b ..        eight words
 --     rows                requests, each with its eight words
---     rows-hold           THE STATEMENT: these are the words of the requests
---     largest-brought     a caller can bring the largest data
+--     rows_hold           THE STATEMENT: these are the words of the requests
+--     largest_brought     a caller can bring the largest data
 --     answer-holds        THE STATEMENT: the numbers of an answer, each in its word
 --     nameless            eight words each: kinds that are no request's, a direction, data and a part that are none
---     nameless-hold       THE STATEMENT: they name no request
+--     nameless_hold       THE STATEMENT: they name no request
 --     too_few             THE STATEMENT: words too few for a request name none, and words too few for an answer stay
 -- Assumes nothing.
 use Rattle.std.specs.Prelude.{◌≡◌, refl, List, [], ◌∷◌, map, ℕ}

@@ -1,9 +1,9 @@
 -- The layout of answers loses nothing, and an answer is written where it belongs.
---     request-in, written_in      a request and an answer whose words are all there
---     reasonFrom n                the reason with number n; answerFrom x: the answer with numbers x
---     numbered-injective          two answers with the same words are the same
+--     request_in_lem, written_in  a request and an answer whose words are all there
+--     reason_from n               the reason with number n; answer_from x: the answer with numbers x
+--     numbered_injective          two answers with the same words are the same
 --     words-at                    the words of answer k, which stand after v, the words of k answers; written_after: the words once it is written
---     writtenFrom x k l           the list of words x with the answers of list l written as its answers k, k + 1 and so on
+--     written_from x k l          the list of words x with the answers of list l written as its answers k, k + 1 and so on
 --     all-written                 answers that are written from the first one on are the first words, one answer after the other
 -- Assumes nothing.
 use Rattle.std.specs.Prelude.{◌≡◌, refl, List, [], ◌∷◌, ◌++◌, ℕ, suc, ◌+◌, ◌*◌, ◌/◌, ◌≤◌}

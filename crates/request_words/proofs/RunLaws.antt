@@ -1,8 +1,8 @@
 -- A run over words is the run of the requests that the words name.
 --     room                the answer words have room for what is served
---     ranOn-live          on any machine a run leaves what the list of its requests leaves
---     ranOn-answers       its first answer words are the answers to that list, one after the other, and the others stay
---     ranTo-live, ranTo-answers   these of the bridge
+--     ran_on-live         on any machine a run leaves what the list of its requests leaves
+--     ran_on-answers      its first answer words are the answers to that list, one after the other, and the others stay
+--     ran_to-live, ran_to-answers  these of the bridge
 -- Assumes nothing.
 use Rattle.std.specs.Prelude.{◌≡◌, refl, List, [], ◌∷◌, length}
 use Rattle.std.proofs.Common.{ap, ◌∙◌}

@@ -2,7 +2,7 @@
 --     Said                the words of a request, and of its answer
 --     said                a row for each row of `cases`
 --     ran f m s w         a run over the request words w, with eight answer words that are 9 before it
---     words-hold          THE STATEMENT: the requests of `cases` have these words, and a run over them answers these words and leaves what `cases` says
+--     words_hold          THE STATEMENT: the requests of `cases` have these words, and a run over them answers these words and leaves what `cases` says
 --     nameless-refused    THE STATEMENT: words that name no request are 2, and 1 where the tables are bad; nothing changes
 -- Assumes nothing.
 use Rattle.std.specs.Prelude.{◌≡◌, refl, ℕ, replicate}

@@ -1,22 +1,22 @@
 -- Requests and answers as words, 8 for each. What a request does not use is 0 and is not read.
---     requestWords, answerWords   the words of one request and of one answer
+--     request_words, answer_words  the words of one request and of one answer
 --     encoded q                   the words of request q, its kind first:
 --                                 0 dma: requester, direction (0 read, 1 write), address, length, data; 1 load, 2 store: address, width;
 --                                 3 error: requester; 4 clear: PE, part (0 mmio, 1 dma, 2 record); 5 end: interrupt; 6 priority: interrupt, priority;
 --                                 7 fatal message: requester; 8 fence clear: nothing.
---                                 2 ^ 64 - 1 is the kind of no request, now and later: `Unnamed` has it. directionNumber, partNumber: those numbers
+--                                 2 ^ 64 - 1 is the kind of no request, now and later: `Unnamed` has it. direction_number, part_number: those numbers
 --     words_of l                   the words of the requests of list l, one after the other
 --     Brought l                   requests that a caller can bring: the data of each DMA of list l are below 2 ^ 32
 --     decoded k a b c d e         the request that the kind k and the numbers a to e name. Another kind, direction or part, and data of 2 ^ 32 or
---                                 more, name none; decodedDma, decodedClear: of kinds 0 and 4
---     decodedFrom l i             the request whose words stand from place i of the list of words l
---     decodedAt l k               request k of the list of words l; requestIn l k: none where its words are not all there
---     askedFrom asked k n         n requests from request k, `asked` being what is asked as request k; requestsFrom l k n: those of the list of words l
---     numberList x                the 8 words of an answer: name, reason, value, words read, PE, server, priority, table word, as `numbered` has them
---     answerList a                the words of answer a; answersOf l: of the answers of list l, one after the other
+--                                 more, name none; decoded_dma, decoded_clear: of kinds 0 and 4
+--     decoded_from l i            the request whose words stand from place i of the list of words l
+--     decoded_at l k              request k of the list of words l; request_in l k: none where its words are not all there
+--     asked_from asked k n        n requests from request k, `asked` being what is asked as request k; requests_from l k n: those of the list of words l
+--     number_list x               the 8 words of an answer: name, reason, value, words read, PE, server, priority, table word, as `numbered` has them
+--     answer_list a               the words of answer a; answers_of l: of the answers of list l, one after the other
 --     over y x                    the words y in the place of the first words of x
---     wordsAt x k                 the words of answer k in the answer words x
---     written l k a               the list of words l with answer a written as its answer k; writtenIn l k a: nothing is
+--     words_at x k                the words of answer k in the answer words x
+--     written l k a               the list of words l with answer a written as its answer k; written_in l k a: nothing is
 --                                 written where the words of answer k are not all there
 -- Assumes nothing.
 use Rattle.std.specs.Prelude.{cond, ℕ, zero, suc, ◌+◌, ◌-◌, ◌*◌, ◌/◌, ◌^◌, ◌<◌, ltb, eqb, length, take, drop}

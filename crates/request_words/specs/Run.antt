@@ -1,11 +1,11 @@
 -- A list of requests as words: what each gets, and what the list leaves.
 --     served w l          how many whole requests the request words w and the answer words l both hold
 --     Ran S               the tables that are written, and the answer words
---     ranOneOn, ranOn     on any machine: request k served on r, and the first n requests, each on the tables as the last one left them; `asked` is what is
+--     ran_one_on, ran_on  on any machine: request k served on r, and the first n requests, each on the tables as the last one left them; `asked` is what is
 --                         asked as request k
---     answersOn           what the requests of a list, not as words, are answered, each on the tables as the last one left them
---     RunState, runState t i l    of the bridge: state t, interrupts i and answer words l
---     ranOne f m w r k    request k of the request words w served on r; ranTo f m w s l n: after the first n requests; answersTo f m s l: of a list
+--     answers_on          what the requests of a list, not as words, are answered, each on the tables as the last one left them
+--     RunState, run_state t i l   of the bridge: state t, interrupts i and answer words l
+--     ran_one f m w r k   request k of the request words w served on r; ran_to f m w s l n: after the first n requests; answers_to f m s l: of a list
 -- Assumes nothing.
 use Rattle.std.specs.Prelude.{List, [], ◌∷◌, ℕ, zero, suc, ◌/◌, min, length}
 use Rattle.kinds.specs.declared.answer.Answer.{Answer}

@@ -1,9 +1,9 @@
 -- DEMAND 3, of a run over words.
---     runPlaces ..        the places of the first n requests that the request words w name: the group's own requests, and the fatal messages and fence clears
+--     run_places ..       the places of the first n requests that the request words w name: the group's own requests, and the fatal messages and fence clears
 --                         of others that are answered done, by their kind
---     ownAnswers ..       the words of the answers to the own requests, in order, in the answer words x; ownAnswersFrom ..: of n requests from request k
+--     own_answers ..      the words of the answers to the own requests, in order, in the answer words x; own_answers_from ..: of n requests from request k
 --     RunIsolation        THE CLAIM: `Isolation`, with words in the place of requests and answers
---     run-isolation       THE THEOREM
+--     run_isolation       THE THEOREM
 -- Assumes nothing.
 use Rattle.std.specs.Prelude.{◌≡◌, Bool, cond, List, [], ◌∷◌}
 use Prim.Native.Nat.{ℕ, zero, suc}

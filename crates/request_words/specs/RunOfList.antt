@@ -3,7 +3,7 @@
 --                         leave, and their answers in the place of the first answer words
 --     RunOfList           THE CLAIM: of any requests that a caller can bring, and what follows their words, all are served where the answer words
 --                         have room, and else the first ones, as many as they have room for
---     run-of-list         THE THEOREM
+--     run_of_list         THE THEOREM
 -- Assumes nothing.
 use Rattle.std.specs.Prelude.{◌≡◌, List, ◌++◌, ℕ, ◌*◌, ◌/◌, ◌<◌, ◌≤◌, length, take}
 use Rattle.kinds.specs.declared.request.Request.{Request}

@@ -1,10 +1,10 @@
 -- 02, [14], of a run over words.
---     runRequests w l     the requests that a run over request words w with answer words l serves
---     runLeft a w l       what it leaves
---     answersFirst ..     the words of its first answer
+--     run_requests w l    the requests that a run over request words w with answer words l serves
+--     run_left a w l      what it leaves
+--     answers_first ..    the words of its first answer
 --     RunReleased         THE CLAIM: `Released`, with words in the place of requests and answers. Before the run stands any list of requests, those of
 --                         earlier runs
---     run-released        THE THEOREM
+--     run_released        THE THEOREM
 -- Assumes nothing.
 use Rattle.std.specs.Prelude.{◌≡◌, true, List, ◌++◌, ℕ, ◌<◌}
 use Rattle.kinds.specs.Words.{at}

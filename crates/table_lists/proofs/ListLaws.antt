@@ -1,6 +1,6 @@
 -- What the functions of lists as a whole cite.
 --     once-none, once-some    1 where there are PEs
---     used-none, used_all, used-part      as many words are in use as were asked for, or all
+--     used_none, used_all, used_part      as many words are in use as were asked for, or all
 --     cleared_more, -all      words cleared from the first on
 -- Assumes nothing.
 use mathlib.Core.Path.{◌≡◌, sym, ◌∙◌}

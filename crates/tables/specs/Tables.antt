@@ -1,7 +1,7 @@
 -- The lent slices as the definition's tables.
 --     tables z i q e p w g    the tables with sizes z and installed size i that no request writes: requesters, translation entries, peers, windows, segments
 --     live t i            the tables that requests write: state and interrupts
---     lengthsOf q e ..    the lengths of the lent lists
+--     lengths_of q e ..   the lengths of the lent lists
 -- Assumes nothing.
 use Rattle.std.specs.Prelude.{List, ℕ, length}
 use Rattle.kinds.specs.declared.record.Lengths.{Lengths}

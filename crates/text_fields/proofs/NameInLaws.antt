@@ -1,6 +1,6 @@
 -- What the functions of names are proved from.
 --     named, later, none_named    a text f is the word w; it is looked for among later words; it is none
---     place-else, place_none    the first word is another, no word is left; unplaced: both
+--     place_else, place_none    the first word is another, no word is left; unplaced: both
 --     tables-last, directions-last, parts_last    a place that is none of the first ones
 -- Assumes nothing.
 use mathlib.Core.Path.{◌≡◌, refl, sym, ◌∙◌}

@@ -1,6 +1,6 @@
 -- The fields of a line are those found by place.
---     fields-first        the fields of a line: the first, and those after it
---     fields-after        the fields after a place: the next, and those after it; fields-end: none from the end of the line on
+--     fields_first        the fields of a line: the first, and those after it
+--     fields_after_lem    the fields after a place: the next, and those after it; fields_end: none from the end of the line on
 --     after-end           the field after the end of the line is empty
 --     after-most          a field that begins in the line ends in it
 --     only-bad, only-more, only-last    what the one field after a place holds: a field that is not read, more than one field, the last field

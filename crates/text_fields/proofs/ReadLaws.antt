@@ -1,8 +1,8 @@
 -- What the fields that were read tell of a line.
 --     line-is             what a line says is what its first field and the fields after it say by the list of all forms
---     KindReads k read take   a field of kind k is what `read` takes, and `take` makes of its value what was read; number-reads and so on: of each kind
---     field-then, field-else    a form that begins with a field, where the line ends as it should, and where it does not; final-then, final-else: a form of
---                         one field; numbers-then, numbers-else: of two numbers
+--     KindReads k read take   a field of kind k is what `read` takes, and `take` makes of its value what was read; number_reads and so on: of each kind
+--     field_then, field_else    a form that begins with a field, where the line ends as it should, and where it does not; final_then, final_else: a form of
+--                         one field; numbers_then, numbers_else: of two numbers
 --     inside              a field that does not end past the line begins in it; at-end: nor does one that ends with the line
 --     good-line, bad-line    the laws for a line that ends with its last field, and for one that does not
 -- Assumes nothing.

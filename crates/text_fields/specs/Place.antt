@@ -1,8 +1,8 @@
 -- The fields of a line by where they end in its bytes, as the code takes them.
 --     first_of l           the first field of l; cut_of l is its length
---     fieldAfter l p      the field after the one that ends at p; empty where there is none
---     endAfter l p        where it ends
---     fieldsAfter l p     all the fields after the one that ends at p; rest l: those after the first byte of l
+--     field_after l p     the field after the one that ends at p; empty where there is none
+--     end_after l p       where it ends
+--     fields_after l p    all the fields after the one that ends at p; rest l: those after the first byte of l
 -- Assumes nothing.
 use Rattle.std.specs.Prelude.{cond, List, [], ◌∷◌, ℕ, suc, ◌+◌, eqb, length, take, drop}
 use Rattle.replay_text.specs.Bytes.{tab}

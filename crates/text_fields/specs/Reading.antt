@@ -1,10 +1,10 @@
 -- What the fields of a line hold, by where they end in its bytes, as the code takes them.
 --     Kind, Field         (of the code) what is asked for in a field; its value and where it ends
---     placeFrom n ws f    the place of word f in the list ws, counted from n
+--     place_from n ws f   the place of word f in the list ws, counted from n
 --     name_at ws a k       what the word at place k stands for; a past the end
---     fieldEnds v e q     a field that ends at e with value v; where there is no value, one that ends at q
---     readAs k t e q      text t as a field of kind k
---     fieldRead k l p     the field after p; where it holds nothing of kind k, it ends past the line
+--     field_ends v e q    a field that ends at e with value v; where there is no value, one that ends at q
+--     read_as k t e q     text t as a field of kind k
+--     field_read k l p    the field after p; where it holds nothing of kind k, it ends past the line
 -- Assumes nothing.
 use Rattle.std.specs.Prelude.{cond, List, [], ◌∷◌, ℕ, zero, suc, ◌+◌, length}
 use Rattle.std.proofs.Math.Option.{Option, none, some}

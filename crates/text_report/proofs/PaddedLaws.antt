@@ -1,5 +1,5 @@
 -- A name in its padding.
---     padded-length       a padding has nameMost bytes; padded-name: the name is its first bytes
+--     padded_length       a padding has name_most bytes; padded_name: the name is its first bytes
 -- Assumes nothing.
 use Rattle.std.specs.Prelude.{◌≡◌, List, ◌++◌, ℕ, length, take, replicate}
 use Rattle.std.proofs.Common.{◌∙◌, arith, length-append, take-take, length-take-le}

@@ -1,5 +1,5 @@
 -- What is known of the bytes where a text was written.
---     sets-append         two texts stored one after the other are the two texts stored at once
+--     sets_append         two texts stored one after the other are the two texts stored at once
 --     sets_last           the last byte of a text can be stored first
 --     written_is          where there is room, the bytes stored are those of the text in their place
 -- Assumes nothing.

@@ -1,5 +1,5 @@
 -- A text written into a list of bytes, where enough of them are free.
---     freeFor m o a       m bytes of o are free from place a on
+--     free_for m o a      m bytes of o are free from place a on
 --     written m o a t     the bytes of o after text t was to be written at place a, where m bytes have to be free: t in their place, or all as they were
 -- Assumes nothing.
 use Rattle.std.specs.Prelude.{Bool, cond, List, ◌++◌, ℕ, ◌+◌, leb, length, take, drop}

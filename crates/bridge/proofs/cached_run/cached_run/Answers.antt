@@ -41,16 +41,16 @@ loop-k-init c = search (rules, run.requests-fit, run.answers-fit, laws.none-serv
 
 pub loop-k-preserved : goal.loop-k-preserved
 loop-k-preserved c = let call = c.advance-k in (
-      search laws.not_past,
-      search rules,
-      search rules,
-      omega (arith, call.auto),
-      omega (arith, call.auto),
-      omega (arith, call.auto),
-      omega (arith, call.auto),
-      omega (arith, call.auto),
-      search laws.more-served,
-    )
+  search laws.not_past,
+  search rules,
+  search rules,
+  omega (arith, call.auto),
+  omega (arith, call.auto),
+  omega (arith, call.auto),
+  omega (arith, call.auto),
+  omega (arith, call.auto),
+  search laws.more-served,
+)
 
 pub returns : goal.returns
 returns c = search laws.all-served

@@ -17,13 +17,13 @@ loop-k-init c = search (rules, laws.none_spanned)
 
 pub loop-k-preserved : goal.loop-k-preserved
 loop-k-preserved c = let call = c.serve in (
-      search rules,
-      search rules,
-      search rules,
-      search rules,
-      omega (arith, call.auto),
-      omega (arith, call.auto),
-      omega (arith, call.auto),
-      omega (arith, call.auto),
-      search laws.one_spanned,
-    )
+  search rules,
+  search rules,
+  search rules,
+  search rules,
+  omega (arith, call.auto),
+  omega (arith, call.auto),
+  omega (arith, call.auto),
+  omega (arith, call.auto),
+  search laws.one_spanned,
+)

@@ -11,7 +11,6 @@ use Rattle.replay_text.specs.Line.{dma}
 use Rattle.text_lines.proofs.request.dma.Goals as goal
 
 good : (q a n x : ℕ) {d e : Direction} → d ≡ e → x < 2 ^ 32 → Request (Dma (record { requester = q; direction = d; address = record { 0 = a }; length = n; «data» = x })) ≡ dma q e a n x
-
 unfolding dma
 good q a n x f h = rw (lt-ltb x (2 ^ 32) h, f)
 
