@@ -2,7 +2,7 @@
 // Prints a line to each mistake; exits with 1 if there is one.
 //
 // A citation stands between backquotes:
-//     `crate/File.name`       a name that crates/crate/specs/File.antt declares
+//     `crate/File.name`       a name that crates/crate/specs/File.antt or crates/crate/proofs/File.antt declares
 //     `crate::name`           a function of the crate, or one that it passes on; `crate::module::name`: of that module
 //     `crate!edit`            crates/crate/must-fail/edit.edit
 //     `folder/file`           a file or folder, or a command that begins with one; * is any crate
@@ -79,11 +79,18 @@ struct Item<'a> {
     name: &'a str,
 }
 
-/// The item that a line of a program declares outside all blocks. `pub use` has the name that it passes on.
-fn item(line: &str) -> Option<Item<'_>> {
+/// The items that a line of a program declares outside all blocks. `pub use` has the names that it passes on.
+fn items(line: &str) -> Vec<Item<'_>> {
     if let Some(path) = line.strip_prefix("pub use ") {
-        return Some(Item { kind: "use", name: path.trim_end_matches(';').rsplit("::").next()? });
+        let list = path.trim_end_matches(';').trim_end_matches('}');
+        let paths = list.split_once('{').map_or(list, |(_, paths)| paths).split(',');
+        let names = paths.filter_map(|path| path.trim().rsplit("::").next());
+        return names.map(|name| Item { kind: "use", name }).collect();
     }
+    item(line).into_iter().collect()
+}
+
+fn item(line: &str) -> Option<Item<'_>> {
     let line = line.strip_prefix("pub ").or(line.strip_prefix("pub(crate) ")).unwrap_or(line);
     let (kind, rest) = line.strip_prefix("extern \"C\" ").unwrap_or(line).split_once(' ')?;
     let end = rest.find(|c: char| !c.is_alphanumeric() && c != '_').unwrap_or(rest.len());
@@ -103,7 +110,7 @@ fn definition(line: &str) -> Option<&str> {
 
 fn declares(file: &str, name: &str) -> bool {
     read(file).lines().any(|line| match file.ends_with(".rt") {
-        true => item(line).is_some_and(|item| item.kind != "use" && item.name == name),
+        true => item(line).is_some_and(|item| item.name == name),
         false => definition(line) == Some(name),
     })
 }
@@ -113,7 +120,7 @@ fn has_function(path: &str) -> bool {
     let parts = path.split("::").collect::<Vec<_>>();
     let found = |file: &String| {
         (parts.len() < 3 || stem(file) == parts[1])
-            && read(file).lines().filter_map(item).any(|item| {
+            && read(file).lines().flat_map(items).any(|item| {
                 ["fn", "use"].contains(&item.kind) && item.name == parts[parts.len() - 1]
             })
     };
@@ -138,7 +145,8 @@ fn stands(text: &str, crates: &[String]) -> Option<bool> {
         let (first, rest) = word.split_once('/')?;
         if crates.iter().any(|name| name == first) {
             let (file, name) = rest.split_once('.').unwrap_or((rest, ""));
-            return Some(declares(&format!("crates/{first}/specs/{file}.antt"), name));
+            let declares = |folder| declares(&format!("crates/{first}/{folder}/{file}.antt"), name);
+            return Some(["specs", "proofs"].into_iter().any(declares));
         }
         let built = first == "target";
         return Some(
@@ -219,7 +227,7 @@ fn verdict_mistakes(text: &str) -> Vec<String> {
 fn main() {
     let crates = read("crates.txt")
         .lines()
-        .map(|line| line.split(':').next().unwrap().to_string())
+        .filter_map(|line| line.split(':').next()?.split(' ').next().map(str::to_string))
         .collect::<Vec<_>>();
     let mut mistakes = Vec::new();
     let mut count = 0;

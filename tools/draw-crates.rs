@@ -23,7 +23,7 @@ const FAMILIES: [(&str, &str); 11] = [
     ("DMA", "dma*"),
     ("translation cache", "edits cache*"),
     ("MSI and firmware", "msi* firmware*"),
-    ("requests and answers", "owners decide handle request_* bridge"),
+    ("requests and answers", "owners decide handle request_* bridge bridge_c"),
     ("loads and stores", "mmio*"),
     ("endpoints and freeze", "endpoints freeze fence"),
     ("premises of isolation", "isolation_*"),
@@ -38,6 +38,8 @@ struct Crate {
     uses: Vec<usize>,
     sentence: String,
     program: bool,
+    /// A static library, which C and Rust link.
+    library: bool,
 }
 
 // ---- Reading ----
@@ -54,11 +56,15 @@ fn family(name: &str) -> Option<usize> {
 
 fn read_crates() -> Vec<Crate> {
     let text = fs::read_to_string("crates.txt").expect("crates.txt");
-    let rows: Vec<(&str, Vec<&str>)> = text
+    // before the colon the name of a crate, and what it is if it is more than a library or a program
+    let rows: Vec<(&str, Vec<&str>, Vec<&str>)> = text
         .lines()
         .map(|line| line.split('#').next().unwrap_or(""))
         .filter_map(|line| line.split_once(':'))
-        .map(|(name, uses)| (name.trim(), uses.split_whitespace().collect()))
+        .map(|(head, uses)| {
+            let mut words = head.split_whitespace();
+            (words.next().unwrap_or(""), words.collect(), uses.split_whitespace().collect())
+        })
         .collect();
     let strays: Vec<&str> =
         rows.iter().map(|row| row.0).filter(|name| family(name).is_none()).collect();
@@ -70,15 +76,15 @@ fn read_crates() -> Vec<Crate> {
         exit(1);
     }
     let places: HashMap<&str, usize> =
-        rows.iter().enumerate().map(|(place, (name, _))| (*name, place)).collect();
+        rows.iter().enumerate().map(|(place, (name, _, _))| (*name, place)).collect();
     // a library of the toolchain is no crate of this repository
     let uses: Vec<Vec<usize>> = rows
         .iter()
-        .map(|(_, uses)| uses.iter().filter_map(|name| places.get(name)).copied().collect())
+        .map(|(_, _, uses)| uses.iter().filter_map(|name| places.get(name)).copied().collect())
         .collect();
     rows.iter()
         .enumerate()
-        .map(|(place, (name, _))| {
+        .map(|(place, (name, kinds, _))| {
             let folder = Path::new("crates").join(name);
             let main = folder.join("src/main.rt");
             let program = main.exists();
@@ -91,6 +97,7 @@ fn read_crates() -> Vec<Crate> {
                 uses: direct(&uses, place),
                 sentence: sentence(&source),
                 program,
+                library: kinds.contains(&"staticlib"),
             }
         })
         .collect()
@@ -329,6 +336,7 @@ const STYLE: &str = "
   .legend { font-size: 12px; fill: #59636e; }
   .box { fill: #ffffff; stroke-width: 1.2; }
   .program { stroke-width: 3; }
+  .library { stroke-width: 2; stroke-dasharray: 6 3; }
   .use { fill: none; stroke-width: 1.6; }
   @media (prefers-color-scheme: dark) {
     text { fill: #e6edf3; }
@@ -340,7 +348,7 @@ const STYLE: &str = "
 
 const LEGEND: [&str; 2] = [
     "A band is a family of crates. A crate stands above those that it uses; a line has the colour of the family that it leads down to.",
-    "A use that others imply is not drawn. A crate with a thick edge is a program.",
+    "A use that others imply is not drawn. A crate with a thick edge is a program, one with a dashed edge a static library for C and Rust.",
 ];
 
 fn colours() -> String {
@@ -491,7 +499,7 @@ fn svg(crates: &[Crate]) -> String {
             item.name,
             escaped(&item.sentence),
             item.family,
-            if item.program { " program" } else { "" },
+            if item.program { " program" } else if item.library { " library" } else { "" },
             band.middle - band.width / 2.0,
             band.width,
             band.middle,

@@ -5,9 +5,9 @@
 //
 // Run in the root of the repository; tools/promises does that. No crate and no function is named here.
 //
-// A promise is the `ensures` at the head of a function. Its definitions are the names in it that the file takes from `specs` of a crate.
-// An edit is one of a public function if the text that it replaces stands in the function, or in a private function or a constant of the
-// same crate that it uses, itself or through private ones.
+// A promise is what stands in the `ensures` clauses at the head of a function. Its definitions are the names in it that the file takes from
+// `specs` or `proofs` of a crate. An edit is one of a public function if the text that it replaces stands in the function, or in a private
+// function or a constant of the same crate that it uses, itself or through private ones.
 
 use std::collections::BTreeSet;
 use std::env;
@@ -27,7 +27,8 @@ struct Item {
     end: usize,
     arguments: Vec<String>,
     requires: bool,
-    ensures: Option<String>,
+    /// What stands in each of its `ensures`.
+    ensures: Vec<String>,
     body: String,
 }
 
@@ -67,27 +68,97 @@ fn front(text: &str) -> &str {
 
 // ---- Sources ----
 
-/// The name of a constant that a line declares or takes from elsewhere.
+/// The statements of a source that begin with a mark at the left margin, each with its place and, up to its `;`, what follows the mark.
+fn statements<'a>(text: &'a str, mark: &str) -> Vec<(usize, &'a str)> {
+    let mut statements = Vec::new();
+    let mut at = 0;
+    for line in text.split_inclusive('\n') {
+        if line.starts_with(mark) {
+            let rest = &text[at + mark.len()..];
+            statements.push((at, &rest[..rest.find(';').unwrap_or(rest.len())]));
+        }
+        at += line.len();
+    }
+    statements
+}
+
+/// The items of a path, as `b` and `c` of `a::{b, c}`, each with what stands before it; of a path without braces its last part.
+fn listed<'a>(path: &'a str, between: &str) -> Vec<(&'a str, &'a str)> {
+    match path.split_once(&format!("{between}{{")) {
+        Some((before, list)) => {
+            let items = list.trim_end().trim_end_matches('}').split(',').map(str::trim);
+            items.filter(|item| !item.is_empty()).map(|item| (before, item)).collect()
+        }
+        None => vec![path.rsplit_once(between).unwrap_or(("", path))],
+    }
+}
+
+/// The places and paths of what a source takes from elsewhere, and whether it passes it on.
+fn imports(text: &str) -> Vec<(usize, String, bool)> {
+    let mut imports = Vec::new();
+    for (mark, passed_on) in [("use ", false), ("pub use ", true)] {
+        for (at, path) in statements(text, mark) {
+            let path_of = |(before, item): (&str, &str)| match before {
+                "" => item.to_string(),
+                before => format!("{before}::{item}"),
+            };
+            imports
+                .extend(listed(path, "::").into_iter().map(|item| (at, path_of(item), passed_on)));
+        }
+    }
+    imports
+}
+
+/// Whether a name is that of a constant.
+fn is_constant(name: &str) -> bool {
+    name.chars().all(|c| c.is_uppercase() || c.is_numeric() || c == '_')
+}
+
+/// The name of a constant that a line declares.
 fn constant(line: &str) -> Option<&str> {
-    let line = line.strip_prefix("pub ").unwrap_or(line);
-    let name = match line.strip_prefix("use ") {
-        Some(path) => path.trim_end().trim_end_matches(';').rsplit("::").next()?,
-        None => front(line.strip_prefix("const ").or(line.strip_prefix("static "))?),
-    };
-    name.chars().all(|c| c.is_uppercase() || c.is_numeric() || c == '_').then_some(name)
+    let line = line.strip_prefix("pub ").or(line.strip_prefix("pub(crate) ")).unwrap_or(line);
+    let name = front(line.strip_prefix("const ").or(line.strip_prefix("static "))?);
+    is_constant(name).then_some(name)
+}
+
+/// The text between a bracket, the first of its kind in a text, and the one that closes it; none where there is no such bracket.
+fn bracketed(text: &str, open: char, close: char) -> Option<&str> {
+    let from = text.find(open)? + open.len_utf8();
+    let mut depth = 1;
+    for (at, c) in text[from..].char_indices() {
+        depth += i32::from(c == open) - i32::from(c == close);
+        if depth == 0 {
+            return Some(&text[from..from + at]);
+        }
+    }
+    Some(&text[from..])
+}
+
+/// What stands in the clauses of a kind at the head of a function: each on lines of its own, in braces, and before these its name, if it has one.
+fn clauses(head: &str, kind: &str) -> Vec<String> {
+    let mark = format!("\n    {kind}");
+    let heads = head.match_indices(&mark).map(|(at, _)| &head[at + mark.len()..]);
+    let own = heads.filter(|rest| !rest.starts_with(is_word));
+    let texts = own.map(|rest| bracketed(rest, '{', '}').unwrap_or(rest));
+    texts.map(|text| text.split_whitespace().collect::<Vec<_>>().join(" ")).collect()
 }
 
 /// The functions and constants of a source: each begins at the left margin, a function ends with the first `}` there, a constant with `;`.
+/// A constant that is taken from elsewhere is where it is named.
 fn items(file: &str, text: &str) -> Vec<Item> {
     let mut items = Vec::new();
     let mut at = 0;
+    let taken = imports(text);
     for line in text.split_inclusive('\n') {
         let start = at;
         at += line.len();
-        if let Some(name) = constant(line) {
+        let own = constant(line).map(str::to_string);
+        let others = taken.iter().filter(|(place, _, _)| *place == start);
+        let others = others.map(|(_, path, _)| path.rsplit("::").next().unwrap().to_string());
+        for name in own.into_iter().chain(others.filter(|name| is_constant(name))) {
             let end = start + text[start..].find(";\n").map_or(text.len() - start, |n| n + 1);
             items.push(Item {
-                name: name.to_string(),
+                name,
                 constant: true,
                 file: file.to_string(),
                 public: false,
@@ -95,10 +166,9 @@ fn items(file: &str, text: &str) -> Vec<Item> {
                 end,
                 arguments: Vec::new(),
                 requires: false,
-                ensures: None,
+                ensures: Vec::new(),
                 body: text[start..end].to_string(),
             });
-            continue;
         }
         let (public, rest) = match line.strip_prefix("pub ") {
             Some(rest) => (true, rest),
@@ -110,13 +180,9 @@ fn items(file: &str, text: &str) -> Vec<Item> {
         };
         let end = start + text[start..].find("\n}").map_or(text.len() - start, |n| n + 2);
         let whole = &text[start..end];
-        let (head, body) = whole.split_once("\n{").unwrap_or((whole, ""));
-        let list = head.split_once('(').map_or("", |(_, rest)| rest);
-        let list = list.split(") ->").next().unwrap_or("").split("\n    ensures").next().unwrap();
-        let clause = |word: &str| {
-            let after = head.split_once(&format!("\n    {word} ")).map(|(_, rest)| rest);
-            after.map(|rest| rest.lines().next().unwrap_or("").to_string())
-        };
+        let parts = whole.split_once("\n{").or(whole.split_once(" {\n"));
+        let (head, body) = parts.unwrap_or((whole, ""));
+        let list = bracketed(head, '(', ')').unwrap_or("");
         items.push(Item {
             name: front(rest).to_string(),
             constant: false,
@@ -129,8 +195,8 @@ fn items(file: &str, text: &str) -> Vec<Item> {
                 .filter_map(|part| part.split_once(':'))
                 .map(|(name, _)| name.trim().trim_start_matches("mut ").to_string())
                 .collect(),
-            requires: clause("requires").is_some(),
-            ensures: clause("ensures"),
+            requires: !clauses(head, "requires").is_empty(),
+            ensures: clauses(head, "ensures"),
             body: body.to_string(),
         });
     }
@@ -139,14 +205,16 @@ fn items(file: &str, text: &str) -> Vec<Item> {
 
 fn read_crates() -> Vec<Crate> {
     let names = read("crates.txt");
-    let names = names.lines().filter_map(|line| line.split(':').next()).collect::<Vec<_>>();
+    // a static library has a word more before the colon
+    let names = names.lines().filter_map(|line| line.split(':').next()?.split(' ').next());
+    let names = names.collect::<Vec<_>>();
     let read_crate = |name: &&str| {
         let sources = files(&format!("crates/{name}/src"))
             .into_iter()
             .map(|path| (path[format!("crates/{name}/").len()..].to_string(), read(&path)))
             .collect::<Vec<_>>();
-        let passed_on = sources.iter().flat_map(|(_, text)| text.lines()).filter_map(|line| {
-            let path = line.strip_prefix("pub use ")?.trim_end_matches(';');
+        let passed_on = sources.iter().flat_map(|(_, text)| imports(text));
+        let passed_on = passed_on.filter(|import| import.2).filter_map(|(_, path, _)| {
             let (first, last) = (path.split("::").next()?, path.rsplit("::").next()?);
             names.contains(&first).then(|| format!("{first}::{last}"))
         });
@@ -226,18 +294,16 @@ impl Crate {
 
 // ---- Promises ----
 
-/// The names that a source takes from `specs` of a crate: the name as it is written there, and the citation.
+/// The names that a source takes from `specs` or `proofs` of a crate: the name as it is written there, and the citation.
 fn taken(text: &str) -> Vec<(String, String)> {
     let mut taken = Vec::new();
-    for line in text.lines() {
-        let Some(path) = line.strip_prefix("ghost use Rattle·") else { continue };
-        let Some((name, rest)) = path.trim_end_matches(';').split_once(".specs.") else { continue };
-        let name = name.split('·').next().unwrap();
-        if rest.starts_with("declared.") {
+    for (_, path) in statements(text, "ghost use Rattle.") {
+        let parts = path.split_once(".specs.").or(path.split_once(".proofs."));
+        let Some((name, rest)) = parts.filter(|(_, rest)| !rest.starts_with("declared.")) else {
             continue;
-        }
-        if let Some((file, list)) = rest.split_once(".{") {
-            for item in list.trim_end_matches('}').split(", ") {
+        };
+        if rest.contains(".{") {
+            for (file, item) in listed(rest, ".") {
                 let (of, written) = item.split_once(" as ").unwrap_or((item, item));
                 taken.push((written.to_string(), format!("{name}/{file}.{of}")));
             }
@@ -248,11 +314,17 @@ fn taken(text: &str) -> Vec<(String, String)> {
     taken
 }
 
-/// The lines of `crates/crate/specs/File.antt` that declare the name of a citation, and the indented ones below.
+/// The lines of `crates/crate/specs/File.antt`, or else of `crates/crate/proofs/File.antt`, that declare the name of a citation, and the
+/// indented ones below.
 fn declared(citation: &str) -> Vec<String> {
     let (name, rest) = citation.split_once('/').unwrap();
     let (file, item) = rest.split_once('.').unwrap();
-    let text = read(&format!("crates/{name}/specs/{file}.antt"));
+    let lines = |folder| declared_in(&format!("crates/{name}/{folder}/{file}.antt"), item);
+    Some(lines("specs")).filter(|lines| !lines.is_empty()).unwrap_or_else(|| lines("proofs"))
+}
+
+fn declared_in(file: &str, item: &str) -> Vec<String> {
+    let text = read(file);
     let indent = |line: &str| line.len() - line.trim_start().len();
     let starts = |line: &&str| {
         let mut words = line
@@ -271,33 +343,45 @@ fn declared(citation: &str) -> Vec<String> {
     [first].into_iter().chain(lines.take_while(below)).map(str::to_string).collect()
 }
 
-/// The definitions that a promise names, in its order. A constructor is no definition.
-fn definitions(text: &str, function: &Item) -> Vec<String> {
-    let ensures = function.ensures.as_deref().unwrap_or("");
+/// The definitions that a clause names, in its order. A constructor is no definition, and a name after a dot is a field, unless a file's own
+/// name stands before the dot.
+fn named(text: &str, function: &Item, clause: &str) -> Vec<String> {
     let taken = taken(text);
     let mut found: Vec<String> = Vec::new();
-    for word in ensures.split(|c: char| !is_word(c) && c != '.' && c != '-') {
-        let word = word.trim_matches('.');
-        if function.arguments.iter().any(|name| name == word) {
+    for word in clause.split(|c: char| !is_word(c) && c != '.' && c != '-') {
+        let mut parts = word.split('.');
+        let (first, field) = (parts.next().unwrap(), parts.next().unwrap_or(""));
+        if function.arguments.iter().any(|name| name == first) {
             continue;
         }
-        let citation = taken.iter().find_map(|(written, citation)| match written.ends_with('.') {
-            true => word.strip_prefix(written.as_str()).map(|name| format!("{citation}{name}")),
-            false => (word == written).then(|| citation.clone()),
-        });
+        let citation =
+            taken.iter().find_map(|(written, citation)| match written.strip_suffix('.') {
+                Some(written) => (first == written).then(|| format!("{citation}{field}")),
+                None => (first == written).then(|| citation.clone()),
+            });
         let citation = citation.filter(|c| !found.contains(c) && !declared(c).is_empty());
         found.extend(citation);
     }
     found
 }
 
-/// Whether a promise states results as equal: it is an equation, or a record or product of equations and of claims that have a name.
-fn is_equation(text: &str, function: &Item) -> bool {
-    let ensures = function.ensures.as_deref().unwrap_or("");
-    if ensures.contains(" ≡ ") {
-        return !ensures.contains(" ≤ ") && !ensures.contains(" < ");
+/// The definitions that a promise names, in its order.
+fn definitions(text: &str, function: &Item) -> Vec<String> {
+    let mut found: Vec<String> = Vec::new();
+    for name in function.ensures.iter().flat_map(|clause| named(text, function, clause)) {
+        if !found.contains(&name) {
+            found.push(name);
+        }
     }
-    let block = definitions(text, function).first().map(|c| declared(c)).unwrap_or_default();
+    found
+}
+
+/// Whether a clause states results as equal: it is an equation, or a record or product of equations and of claims that have a name.
+fn is_equation(text: &str, function: &Item, clause: &str) -> bool {
+    if clause.contains(" ≡ ") {
+        return !clause.contains(" ≤ ") && !clause.contains(" < ");
+    }
+    let block = named(text, function, clause).first().map(|c| declared(c)).unwrap_or_default();
     let parts = block.iter().skip(1).filter(|line| !line.trim_start().starts_with("--"));
     let stated = |line: &String| {
         let field = line.split_once(" : ").map(|(_, of)| of);
@@ -337,11 +421,9 @@ fn called(crates: &[Crate], of: &Crate, callers: &[usize]) -> Vec<String> {
             let own = of.meant(caller, &used).map(|k| (of, &of.items[k]));
             let first = used.0.split("::").next().unwrap();
             let source = of.sources.iter().find(|(file, _)| *file == caller.file);
-            let home = source.into_iter().flat_map(|(_, text)| text.lines()).find_map(|line| {
-                let path = line.strip_prefix("use ")?.strip_suffix(';')?;
-                (path.rsplit("::").next() == Some(first)).then(|| path.split("::").next())?
-            });
-            let home = home.unwrap_or(first);
+            let mut paths = source.into_iter().flat_map(|(_, text)| imports(text)).map(|x| x.1);
+            let home = paths.find(|path| path.rsplit("::").next() == Some(first));
+            let home = home.as_deref().map_or(first, |path| path.split("::").next().unwrap());
             let other = crates.iter().find(|other| other.name == home).and_then(|other| {
                 Some((other, other.items.iter().find(|f| f.name == used.1 && f.public)?))
             });
@@ -353,12 +435,6 @@ fn called(crates: &[Crate], of: &Crate, callers: &[usize]) -> Vec<String> {
         }
     }
     called
-}
-
-/// What a promise says, without the marks around it.
-fn stated(function: &Item) -> &str {
-    let ensures = function.ensures.as_deref().unwrap_or("");
-    ensures.split_once("⌜ ").and_then(|(_, rest)| rest.split_once(" ⌝")).map_or(ensures, |x| x.0)
 }
 
 fn cited(names: &[String]) -> String {
@@ -383,9 +459,9 @@ fn main() {
             if function.requires {
                 wrong.push(format!("{name}: a public function with a requires"));
             }
-            if function.ensures.is_none() {
+            if function.ensures.is_empty() {
                 wrong.push(format!("{name}: a public function without an ensures"));
-            } else if !is_equation(text, function) {
+            } else if !function.ensures.iter().all(|clause| is_equation(text, function, clause)) {
                 wrong
                     .push(format!("{name}: its ensures is no equation and no record of equations"));
             }
@@ -399,7 +475,7 @@ fn main() {
                 names.extend(passing.map(|other| format!("{}::{}", other.name, function.name)));
                 let mut definitions = cited(&definitions(text, function));
                 if definitions.is_empty() {
-                    definitions = format!("`{}`", stated(function));
+                    definitions = cited(&function.ensures);
                 }
                 let calls = called(&crates, of, &reached);
                 let edits = match (own.is_empty(), calls.is_empty()) {
