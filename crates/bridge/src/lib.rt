@@ -1,4 +1,4 @@
-// The bridge: lists of requests as words, served on the lent tables, without a translation cache and with one; the functions that Rust and C call. Defined in
+// The bridge: lists of requests as words, served on the lent tables, without a translation cache and with one. Rust and C call it by bridge_c. Defined in
 // crates/request_words/specs/Run.antt and crates/cache_words/specs/CachedRun.antt.
 #![tactic(auto)]
 

@@ -1,5 +1,5 @@
 -- Reach as a test, and memory under edits.
---     below-some, some_below      a number below n of which the test holds, both ways
+--     below-some, some_below_lem  a number below n of which the test holds, both ways
 --     reach_reads, reads_reach      the test of reach is `Reads`, both ways
 --     reach_in          only a word that memory has is in reach, so that an edit of another is nobody's
 --     edit-away           an edit of a word out of reach is not seen

@@ -2,7 +2,7 @@
 --     FeedCase            where it stood, the piece, where it stands, and the bytes taken
 --     feed_cases          a line that ends, one that does not, an empty piece; no room in the output, no count left, no room in the tables; a full buffer
 --     feed_hold           THE STATEMENT: each piece leaves and takes what its row says
---     endCases, end_hold  the same of the end of the input
+--     end_hold            the same of the end of the input
 -- Assumes nothing.
 use Rattle.std.specs.Prelude.{◌≡◌, refl, List, [], ◌∷◌, map, ℕ, replicate}
 use Prim.Native.String.{String}

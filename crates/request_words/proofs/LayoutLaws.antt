@@ -1,5 +1,5 @@
 -- The layout of answers loses nothing, and an answer is written where it belongs.
---     request_in_lem, written_in  a request and an answer whose words are all there
+--     request_in_lem, written_in_lem  a request and an answer whose words are all there
 --     reason_from n               the reason with number n; answer_from x: the answer with numbers x
 --     numbered_injective          two answers with the same words are the same
 --     words-at                    the words of answer k, which stand after v, the words of k answers; written_after: the words once it is written
