@@ -1,20 +1,14 @@
 -- Theorems of specs/Either.antt. Assumes nothing.
-use Rattle.std.specs.Prelude.{◌≡◌, Bool, true, false, List}
+use Rattle.std.specs.Prelude.{◌≡◌, false, List}
 use Rattle.std.proofs.Math.Path.{refl}
-use Prim.Native.Nat.{ℕ, zero, suc, ◌+◌}
-use Rattle.std.proofs.Math.Nat.{add-zero}
+use Prim.Native.Nat.{ℕ, zero, suc}
 use Rattle.std.proofs.Common.{zero-add}
-use native.Mathlib.Omega.{arith}
-use Rattle.kinds.specs.declared.answer.Answer.{Answer}
-use Rattle.kinds.specs.declared.request.Operation.{Operation}
-use Rattle.kinds.specs.declared.request.Operation.TheVariants.{Plain}
 use Rattle.profile.specs.Tables.{Tables, Live}
 use Rattle.request_words.specs.Run.{Ran, RunState, ran_one_on, ran_on, ran_one, ran_to}
-use Rattle.edits.specs.Edits.{bare_answer, bare_after}
-use Rattle.cache.specs.Cache.{Cached, cached_answer, cached_after}
-use Rattle.cache_words.specs.Operations.{plain_of, operation_at}
+use Rattle.cache.specs.Cache.{Cached}
+use Rattle.cache_words.specs.Operations.{operation_at}
 use Rattle.cache_words.proofs.OperationsLaws.{plain_of_lem}
-use Rattle.cache_words.specs.Either.{either_after, either_answer, either_span, ran_on-span, span, span-one, span_none}
+use Rattle.cache_words.specs.Either.{either_after, either_answer, either_span, span}
 
 module _ (f : Tables) (m w c : List ℕ) (s : Live) (l : List ℕ) where
   -- the state and the answer words of a bridge without a cache, seen as those of one that has the cache c

@@ -5,10 +5,9 @@
 --     lists_hold          of a list of words that ends early
 --     plain_hold          what these are to the bridge without a cache; maintained_hold: a request is no edit and no invalidate
 -- Assumes nothing.
-use Rattle.std.specs.Prelude.{◌≡◌, refl, Bool, true, false, List, [], ◌∷◌, map, ℕ}
+use Rattle.std.specs.Prelude.{◌≡◌, refl, true, false, List, [], ◌∷◌, map, ℕ}
 use Rattle.kinds.specs.declared.request.Operation.{Operation}
 use Rattle.kinds.specs.declared.request.Operation.TheVariants.{Plain, Edit, Invalidate}
-use Rattle.kinds.specs.declared.request.Request.{Request}
 use Rattle.kinds.specs.declared.request.Request.TheVariants.{Error, Unnamed}
 use Rattle.kinds.specs.declared.request.Scope.TheVariants.{All, Pe, Address}
 use Rattle.request_words.specs.Layout.{decoded}

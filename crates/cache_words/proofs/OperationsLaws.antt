@@ -1,5 +1,5 @@
 -- Theorems of specs/OperationsLaws.antt. Assumes nothing.
-use Rattle.std.specs.Prelude.{◌≡◌, true, false, List, [], ◌∷◌, ◌++◌, ℕ, ◌+◌, ◌*◌, ◌/◌, ◌≤◌, eqb, length}
+use Rattle.std.specs.Prelude.{◌≡◌, true, false, List, [], ◌++◌, ℕ, ◌+◌, ◌*◌, ◌/◌, ◌≤◌, eqb, length}
 use Rattle.std.proofs.Math.Path.{refl, sym}
 use Rattle.std.proofs.Common.{◌∙◌, add-zero, arith, get_or-append-add}
 use borrow.Author.Tests.{lt-ltb, eqb-true}
@@ -12,7 +12,7 @@ use Rattle.kinds.specs.declared.request.Request.TheVariants.{Dma, Load, Store, E
 use Rattle.kinds.specs.declared.request.Scope.{Scope}
 use Rattle.kinds.specs.declared.request.Scope.TheVariants as scope
 use Rattle.request_words.proofs.EncodedLaws.{decoded-encoded}
-use Rattle.request_words.specs.Layout.{request_words, encoded, decoded, decoded_from, decoded_at, Brought}
+use Rattle.request_words.specs.Layout.{request_words, encoded, decoded, decoded_from, decoded_at}
 use Rattle.cache_words.specs.Operations.{edit_kind, invalidate_kind, encoded_operation, decoded_invalidate, decoded_operation, of_cache, plain_of, maintained, operation_from, operation_at, operation_in, of_cache_in}
 use Rattle.cache_words.specs.OperationsLaws.{Sendable}
 

@@ -9,13 +9,12 @@ use Rattle.std.specs.Prelude.{◌≡◌, Bool, true, false, List}
 use Rattle.std.proofs.Math.Path.{refl}
 use Prim.Native.Nat.{ℕ, zero, suc, ◌+◌}
 use Rattle.std.proofs.Math.Nat.{add-zero}
-use Rattle.std.proofs.Common.{zero-add}
 use native.Mathlib.Omega.{arith}
 use Rattle.kinds.specs.declared.answer.Answer.{Answer}
 use Rattle.kinds.specs.declared.request.Operation.{Operation}
 use Rattle.kinds.specs.declared.request.Operation.TheVariants.{Plain}
-use Rattle.profile.specs.Tables.{Tables, Live}
-use Rattle.request_words.specs.Run.{Ran, RunState, ran_one_on, ran_on, ran_one, ran_to}
+use Rattle.profile.specs.Tables.{Tables}
+use Rattle.request_words.specs.Run.{Ran, ran_one_on, ran_on}
 use Rattle.edits.specs.Edits.{bare_answer, bare_after}
 use Rattle.cache.specs.Cache.{Cached, cached_answer, cached_after}
 use Rattle.cache_words.specs.Operations.{plain_of, operation_at}

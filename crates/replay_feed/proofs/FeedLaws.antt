@@ -2,7 +2,7 @@
 --     byte-fed            one byte that is not stuck
 --     in_text             THE LAW, of every piece
 -- Assumes nothing.
-use Rattle.std.specs.Prelude.{◌≡◌, true, false, not, ◌&&◌, List, [], ◌∷◌, ℕ, suc, ◌+◌, ◌≤◌, ◌<◌, eqb, ltb, length, take, get_or}
+use Rattle.std.specs.Prelude.{◌≡◌, true, false, ◌&&◌, List, [], ◌∷◌, ℕ, suc, ◌+◌, ◌≤◌, ◌<◌, eqb, ltb, length, take, get_or}
 use Rattle.std.proofs.Math.Path.{refl}
 use Rattle.std.proofs.Common.{sym, ◌∙◌, add_assoc, suc-add, zero-add, arith, length-set, length-append, length-take-le}
 use Rattle.std.proofs.Math.Nat.{add-zero}

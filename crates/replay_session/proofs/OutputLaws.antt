@@ -11,10 +11,10 @@ use mathlib.Core.List.{List}
 use Prim.Native.Nat.{ℕ, ◌+◌, ◌-◌, ◌≤◌, ◌<◌}
 use native.Mathlib.Nat.{add-zero}
 use native.Mathlib.Omega.{arith}
-use lib.Dec.{eqb, ltb, leb}
+use lib.Dec.{ltb, leb}
 use lib.ListN.{length, take}
 use lib.Seq.{sets, take_all, length-take-le}
-use borrow.Author.Tests.{lt-ltb, le-ltb, lt-leb, le-leb, leb-true, leb-false, eq-eqb, ne_eqb}
+use borrow.Author.Tests.{lt-ltb, le-ltb, lt-leb, le-leb, leb-true, leb-false}
 use Rattle.kinds.proofs.Tests.{by_cases, clash}
 use Rattle.kinds.specs.declared.answer.Numbers.{Numbers}
 use Rattle.replay_text.specs.Text.{answer_line, line_most}
@@ -28,7 +28,6 @@ use Rattle.replay_tables.specs.declared.Replied.{Replied}
 use Rattle.replay_text.specs.declared.Reply.{Reply}
 use Rattle.replay_text.specs.declared.Reply.TheVariants.{Silent, Says, NoRoom as NoReply}
 use Rattle.replay_text.specs.Replay.{text_of}
-use Rattle.replay_text.specs.Stream.{line_kept}
 use Rattle.replay_session.specs.EndPromise.{had_room, closed_by, ran_by}
 use Rattle.replay_session.specs.Standing.{last_count}
 use Rattle.replay_session.specs.declared.Closed.{Closed}

@@ -1,6 +1,5 @@
 -- `cache_handle::check` meets its contract. Assumes nothing.
 use Rattle.cache_handle.proofs.OperateLaws as laws
-use borrow.Author.Rules.{rules}
 use Rattle.cache_handle.proofs.check.Goals as goal
 
 pub returns-then-is_misfit : goal.returns-then-is_misfit

@@ -1,6 +1,5 @@
 -- `cache_handle::invalidate` meets its contract. Assumes nothing.
 use Rattle.cache_handle.proofs.OperateLaws as laws
-use borrow.Author.Rules.{rules}
 use Rattle.cache_handle.proofs.invalidate.Goals as goal
 
 pub overflow_cast-sizes : goal.overflow_cast-sizes

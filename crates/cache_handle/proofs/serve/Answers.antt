@@ -1,6 +1,5 @@
 -- `cache_handle::serve` meets its contract. Assumes nothing.
 use Rattle.cache_handle.proofs.OperateLaws as laws
-use borrow.Author.Rules.{rules}
 use Rattle.cache_handle.proofs.serve.Goals as goal
 
 pub returns-then-checked : goal.returns-then-checked

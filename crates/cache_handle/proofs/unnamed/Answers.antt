@@ -1,6 +1,5 @@
 -- `cache_handle::unnamed` meets its contract. Assumes nothing.
 use Rattle.cache_handle.proofs.OperateLaws as laws
-use borrow.Author.Rules.{rules}
 use Rattle.cache_handle.proofs.unnamed.Goals as goal
 
 pub returns-then-fits : goal.returns-then-fits

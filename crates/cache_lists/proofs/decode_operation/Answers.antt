@@ -2,7 +2,6 @@
 use Rattle.cache_lists.proofs.ListLaws as laws
 use Rattle.kinds.proofs.Tests.{tests}
 use Rattle.cache_words.specs.Operations.{decoded_operation}
-use borrow.Author.Rules.{rules}
 use Rattle.cache_lists.proofs.decode_operation.Goals as goal
 
 pub returns-then-kind-eq-EDIT : goal.returns-then-kind-eq-EDIT

@@ -1,6 +1,5 @@
 -- `cache_lists::is_of_cache` meets its contract. Assumes nothing.
 use Rattle.cache_lists.proofs.ListLaws as laws
-use borrow.Author.Rules.{rules}
 use Rattle.cache_lists.proofs.is_of_cache.Goals as goal
 
 pub returns-then-kind-eq-EDIT : goal.returns-then-kind-eq-EDIT

@@ -1,6 +1,5 @@
 -- `cache_lists::operation_at` meets its contract. Assumes nothing.
 use Rattle.cache_lists.proofs.ListLaws as laws
-use borrow.Author.Rules.{rules}
 use Rattle.cache_lists.proofs.operation_at.Goals as goal
 
 pub returns-then-k-requests : goal.returns-then-k-requests

@@ -1,6 +1,5 @@
 -- `handle::act_at` meets its contract. Assumes nothing.
 use Rattle.handle.proofs.HandleLaws as laws
-use borrow.Author.Rules.{rules}
 use Rattle.handle.proofs.act_at.Goals as goal
 
 pub returns-in-Keep : goal.returns-in-Keep

@@ -1,6 +1,5 @@
 -- `handle::handle` meets its contract. Assumes nothing.
 use Rattle.handle.proofs.HandleLaws as laws
-use borrow.Author.Rules.{rules}
 use Rattle.handle.proofs.handle.Goals as goal
 
 pub returns-then-checked : goal.returns-then-checked

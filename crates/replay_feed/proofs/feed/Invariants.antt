@@ -1,12 +1,9 @@
-use mathlib.Core.Path.{◌≡◌, refl, sym, ◌∙◌}
+use mathlib.Core.Path.{◌≡◌}
 use mathlib.Core.Bool.{true}
 use Prim.Native.Nat.{◌-◌}
 use lib.ListN.{length}
 use Rattle.replay_session.specs.Standing.{standing, buffers, fits}
-use Rattle.replay_session.proofs.StandingLaws.{fit-both}
-use Rattle.replay_feed.proofs.TakeLaws as laws
 use Rattle.replay_feed.proofs.TakeLaws.{Here}
-use borrow.Author.Rules.{rules}
 use Rattle.replay_feed.proofs.feed.Given as goal
 
 abbrev pub invariant-loop-i : goal.invariant-loop-i

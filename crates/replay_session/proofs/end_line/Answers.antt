@@ -1,6 +1,5 @@
 -- `replay_session::end_line` meets its contract. Assumes nothing.
 use Rattle.replay_session.proofs.EndLaws as laws
-use borrow.Author.Rules.{rules}
 use Rattle.replay_session.proofs.end_line.Goals as goal
 
 pub returns-then-has_room : goal.returns-then-has_room

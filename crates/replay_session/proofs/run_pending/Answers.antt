@@ -1,6 +1,5 @@
 -- `replay_session::run_pending` meets its contract. Assumes nothing.
 use Rattle.replay_session.proofs.EndLaws as laws
-use borrow.Author.Rules.{rules}
 use Rattle.replay_session.proofs.run_pending.Goals as goal
 
 pub returns : goal.returns

@@ -1,6 +1,5 @@
 -- `replay_tables::set_in` meets its contract. Assumes nothing.
 use Rattle.replay_tables.proofs.SetLaws as laws
-use borrow.Author.Rules.{rules}
 use Rattle.replay_tables.proofs.set_in.Goals as goal
 
 pub returns-in-Requesters : goal.returns-in-Requesters

@@ -1,7 +1,6 @@
 -- `text_lines::parse` meets its contract. Assumes nothing.
 use Rattle.replay_text.proofs.FormLaws as laws
 use Rattle.text_fields.proofs.ReadLaws.{line-is}
-use borrow.Author.Rules.{rules}
 use Rattle.text_lines.proofs.parse.Goals as goal
 
 pub returns-then-same : goal.returns-then-same

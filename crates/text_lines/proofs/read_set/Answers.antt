@@ -1,6 +1,5 @@
 -- `text_lines::read_set` meets its contract. Assumes nothing.
 use Rattle.text_fields.proofs.ReadLaws as laws
-use borrow.Author.Rules.{rules}
 use Rattle.text_lines.proofs.read_set.Goals as goal
 
 pub returns-then-value-line : goal.returns-then-value-line

@@ -1,6 +1,5 @@
 -- `text_lines::read_size` meets its contract. Assumes nothing.
 use Rattle.text_fields.proofs.ReadLaws as laws
-use borrow.Author.Rules.{rules}
 use Rattle.text_lines.proofs.read_size.Goals as goal
 
 pub returns-then-memory-line : goal.returns-then-memory-line

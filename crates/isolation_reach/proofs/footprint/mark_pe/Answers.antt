@@ -1,6 +1,5 @@
 -- `isolation_reach::footprint::mark_pe` meets its contract. Assumes nothing.
 use Rattle.isolation_reach.proofs.MembersLaws as laws
-use borrow.Author.Rules.{rules}
 use Rattle.isolation_reach.proofs.footprint.mark_pe.Goals as goal
 
 pub returns-then-is_member : goal.returns-then-is_member

@@ -1,13 +1,9 @@
 -- `isolation_reach::footprint::mark_pes` meets its contract. The invariant: the marks are as the turns of the PEs so far leave them. The measure is how many PEs are left. Assumes nothing.
-use Rattle.isolation_reach.proofs.MembersLaws as laws
 use borrow.Author.Rules.{rules}
-use mathlib.Core.Path.{◌≡◌, refl}
-use Prim.Native.Nat.{◌-◌, ◌≤◌}
+use mathlib.Core.Path.{refl}
 use native.Mathlib.Omega.{arith}
-use lib.ListN.{length}
 use Rattle.kinds.specs.Turns.{turns}
 use Rattle.kinds.proofs.TurnsLaws.{turns_next}
-use Rattle.isolation_reach.specs.Footprint.{pe_turn}
 use Rattle.isolation_reach.proofs.footprint.mark_pes.Goals as goal
 
 pub loop-pe-init : goal.loop-pe-init

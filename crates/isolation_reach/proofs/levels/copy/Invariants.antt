@@ -1,6 +1,4 @@
-use Rattle.isolation_reach.proofs.MarkingLaws as laws
-use borrow.Author.Rules.{rules}
-use mathlib.Core.Path.{◌≡◌, refl}
+use mathlib.Core.Path.{◌≡◌}
 use Prim.Native.Nat.{◌-◌, ◌≤◌}
 use lib.ListN.{length, take}
 use Rattle.isolation_reach.proofs.levels.copy.Given as goal

@@ -1,6 +1,5 @@
 -- `isolation_reach::levels::leads_to` meets its contract. Assumes nothing.
 use Rattle.isolation_reach.proofs.MarkingLaws as laws
-use borrow.Author.Rules.{rules}
 use Rattle.isolation_reach.proofs.levels.leads_to.Goals as goal
 
 pub returns-then-none-table : goal.returns-then-none-table

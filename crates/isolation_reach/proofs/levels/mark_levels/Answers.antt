@@ -1,10 +1,6 @@
 -- `isolation_reach::levels::mark_levels` meets its contract. The invariant: the marks from the top are those from here. The measure is how many levels are below. Assumes nothing.
 use Rattle.isolation_reach.proofs.MarkingLaws as laws
 use borrow.Author.Rules.{rules}
-use mathlib.Core.Path.{◌≡◌}
-use Prim.Native.Nat.{◌≤◌}
-use lib.ListN.{length, replicate}
-use Rattle.isolation_reach.specs.Marks.{marks_from}
 use Rattle.isolation_reach.proofs.levels.mark_levels.Goals as goal
 
 pub loop-below-preserved : goal.loop-below-preserved

@@ -1,13 +1,10 @@
 -- `isolation_reach::levels::mark_tables` meets its contract. The invariant: the marks are as j turns leave them. The measure is how many words are left. Assumes nothing.
 use Rattle.isolation_reach.proofs.MarkingLaws as laws
 use borrow.Author.Rules.{rules}
-use mathlib.Core.Path.{◌≡◌, refl}
-use Prim.Native.Nat.{◌-◌, ◌≤◌}
+use mathlib.Core.Path.{refl}
 use native.Mathlib.Omega.{arith}
-use lib.ListN.{length}
 use Rattle.kinds.specs.Turns.{turns}
 use Rattle.kinds.proofs.TurnsLaws.{turns_next}
-use Rattle.isolation_reach.specs.Marks.{table_turn}
 use Rattle.isolation_reach.proofs.levels.mark_tables.Goals as goal
 
 pub loop-j-init : goal.loop-j-init

@@ -1,11 +1,7 @@
-use Rattle.isolation_reach.proofs.MarkingLaws as laws
-use borrow.Author.Rules.{rules}
-use mathlib.Core.Path.{◌≡◌, refl}
+use mathlib.Core.Path.{◌≡◌}
 use Prim.Native.Nat.{◌-◌, ◌≤◌}
-use native.Mathlib.Omega.{arith}
 use lib.ListN.{length}
 use Rattle.kinds.specs.Turns.{turns}
-use Rattle.kinds.proofs.TurnsLaws.{turns_next}
 use Rattle.isolation_reach.specs.Marks.{mark_turn}
 use Rattle.isolation_reach.proofs.levels.mark_words.Given as goal
 

@@ -1,6 +1,5 @@
 -- `isolation_reach::levels::within` meets its contract. Assumes nothing.
 use Rattle.isolation_reach.proofs.MarkingLaws as laws
-use borrow.Author.Rules.{rules}
 use Rattle.isolation_reach.proofs.levels.within.Goals as goal
 
 pub returns-then-has_mark : goal.returns-then-has_mark

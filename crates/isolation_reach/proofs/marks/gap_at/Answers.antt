@@ -1,6 +1,5 @@
 -- `isolation_reach::marks::gap_at` meets its contract. Assumes nothing.
 use Rattle.isolation_reach.proofs.MarkingLaws as laws
-use borrow.Author.Rules.{rules}
 use Rattle.isolation_reach.proofs.marks.gap_at.Goals as goal
 
 pub returns-then-page-shift-eq0 : goal.returns-then-page-shift-eq0

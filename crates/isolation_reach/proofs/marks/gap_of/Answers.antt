@@ -1,6 +1,5 @@
 -- `isolation_reach::marks::gap_of` meets its contract. Assumes nothing.
 use Rattle.isolation_reach.proofs.MarkingLaws as laws
-use borrow.Author.Rules.{rules}
 use Rattle.isolation_reach.proofs.marks.gap_of.Goals as goal
 
 pub returns-then-entry-eq1 : goal.returns-then-entry-eq1

@@ -1,6 +1,5 @@
 -- `isolation_reach::marks::has_pages` meets its contract. Assumes nothing.
 use Rattle.isolation_reach.proofs.MarkingLaws as laws
-use borrow.Author.Rules.{rules}
 use Rattle.isolation_reach.proofs.marks.has_pages.Goals as goal
 
 pub returns-then-entry-lt1 : goal.returns-then-entry-lt1

@@ -1,6 +1,5 @@
 -- `isolation_reach::marks::mark_entry` meets its contract. Assumes nothing.
 use Rattle.isolation_reach.proofs.MarkingLaws as laws
-use borrow.Author.Rules.{rules}
 use Rattle.isolation_reach.proofs.marks.mark_entry.Goals as goal
 
 pub returns-then-under-memory : goal.returns-then-under-memory

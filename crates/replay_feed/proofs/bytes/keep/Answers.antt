@@ -1,10 +1,6 @@
 -- `replay_feed::bytes::keep` meets its contract. The invariant: what is kept from the start is what is kept from here. Assumes nothing.
-use mathlib.Core.Path.{◌≡◌, refl}
-use Prim.Native.Nat.{◌-◌, ◌≤◌}
-use native.Mathlib.Omega.{arith}
-use lib.ListN.{length, take}
+use mathlib.Core.Path.{refl}
 use borrow.Author.Rules.{rules}
-use Rattle.replay_text.specs.Stream.{line_kept}
 use Rattle.replay_feed.proofs.TakeLaws as laws
 use Rattle.replay_feed.proofs.TakeLaws.{Keeping}
 use Rattle.replay_feed.proofs.bytes.keep.Goals as goal

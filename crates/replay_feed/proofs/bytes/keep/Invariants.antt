@@ -1,10 +1,7 @@
-use mathlib.Core.Path.{◌≡◌, refl}
+use mathlib.Core.Path.{◌≡◌}
 use Prim.Native.Nat.{◌-◌, ◌≤◌}
-use native.Mathlib.Omega.{arith}
-use lib.ListN.{length, take}
-use borrow.Author.Rules.{rules}
+use lib.ListN.{length}
 use Rattle.replay_text.specs.Stream.{line_kept}
-use Rattle.replay_feed.proofs.TakeLaws as laws
 use Rattle.replay_feed.proofs.TakeLaws.{Keeping}
 use Rattle.replay_feed.proofs.bytes.keep.Given as goal
 

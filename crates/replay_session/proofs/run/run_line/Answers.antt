@@ -1,6 +1,5 @@
 -- `replay_session::run::run_line` meets its contract. Assumes nothing.
 use Rattle.replay_session.proofs.LineLaws as laws
-use borrow.Author.Rules.{rules}
 use Rattle.replay_session.proofs.run.run_line.Goals as goal
 
 pub returns-in-Size : goal.returns-in-Size

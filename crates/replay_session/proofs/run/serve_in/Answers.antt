@@ -1,6 +1,5 @@
 -- `replay_session::run::serve_in` meets its contract. Assumes nothing.
 use Rattle.replay_session.proofs.RequestLaws as laws
-use borrow.Author.Rules.{rules}
 use Rattle.replay_session.proofs.run.serve_in.Goals as goal
 
 pub returns : goal.returns

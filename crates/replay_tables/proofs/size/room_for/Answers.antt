@@ -1,6 +1,5 @@
 -- `replay_tables::size::room_for` meets its contract. Assumes nothing.
 use Rattle.replay_tables.proofs.SizeLaws as laws
-use borrow.Author.Rules.{rules}
 use Rattle.replay_tables.proofs.size.room_for.Goals as goal
 
 pub returns-then-pes-lt1 : goal.returns-then-pes-lt1

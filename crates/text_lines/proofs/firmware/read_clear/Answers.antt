@@ -1,6 +1,5 @@
 -- `text_lines::firmware::read_clear` meets its contract. Assumes nothing.
 use Rattle.text_fields.proofs.ReadLaws as laws
-use borrow.Author.Rules.{rules}
 use Rattle.text_lines.proofs.firmware.read_clear.Goals as goal
 
 pub returns-then-part-line : goal.returns-then-part-line

@@ -1,6 +1,5 @@
 -- `text_lines::firmware::read_end` meets its contract. Assumes nothing.
 use Rattle.text_fields.proofs.ReadLaws as laws
-use borrow.Author.Rules.{rules}
 use Rattle.text_lines.proofs.firmware.read_end.Goals as goal
 
 pub returns-then-interrupt-line : goal.returns-then-interrupt-line

@@ -1,6 +1,5 @@
 -- `text_lines::firmware::read_firmware` meets its contract. Assumes nothing.
 use Rattle.replay_text.proofs.FormLaws as laws
-use borrow.Author.Rules.{rules}
 use Rattle.text_lines.proofs.firmware.read_firmware.Goals as goal
 
 pub returns-then-same : goal.returns-then-same

@@ -1,6 +1,5 @@
 -- `text_lines::firmware::read_priority` meets its contract. Assumes nothing.
 use Rattle.text_fields.proofs.ReadLaws as laws
-use borrow.Author.Rules.{rules}
 use Rattle.text_lines.proofs.firmware.read_priority.Goals as goal
 
 pub returns-then-priority-line : goal.returns-then-priority-line

@@ -1,7 +1,6 @@
 -- `text_lines::request::dma` meets its contract. Assumes nothing.
 use mathlib.Core.Path.{◌≡◌}
 use Prim.Native.Nat.{ℕ, ◌^◌, ◌<◌}
-use borrow.Author.Rules.{rules}
 use borrow.Author.Tests.{lt-ltb}
 use Rattle.kinds.proofs.Tests.{tests}
 use Rattle.kinds.specs.declared.request.Direction.{Direction}

@@ -1,6 +1,5 @@
 -- `text_lines::request::read_request` meets its contract. Assumes nothing.
 use Rattle.replay_text.proofs.FormLaws as laws
-use borrow.Author.Rules.{rules}
 use Rattle.text_lines.proofs.request.read_request.Goals as goal
 
 pub returns-then-same : goal.returns-then-same

@@ -1,6 +1,5 @@
 -- `text_lines::request::read_store` meets its contract. Assumes nothing.
 use Rattle.text_fields.proofs.ReadLaws as laws
-use borrow.Author.Rules.{rules}
 use Rattle.text_lines.proofs.request.read_store.Goals as goal
 
 pub returns-then-width-line : goal.returns-then-width-line
