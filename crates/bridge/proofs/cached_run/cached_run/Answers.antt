@@ -1,15 +1,7 @@
 -- `bridge::cached_run::cached_run` meets its contract. The invariant: the tables and the answer words are those after k operations, and no length has changed.
 -- The measure is the number of operations that are left. Assumes nothing.
-use mathlib.Core.Path.{◌≡◌}
-use Prim.Native.Nat.{◌-◌, ◌*◌, ◌≤◌}
 use native.Mathlib.Omega.{arith}
-use lib.ListN.{length}
 use borrow.Author.Rules.{rules}
-use Rattle.request_words.specs.Layout.{request_words, answer_words}
-use Rattle.tables.specs.Tables.{tables}
-use Rattle.cache_handle.specs.Lent.{lent}
-use Rattle.cache_words.specs.CachedRun.{cached_ran_to}
-use Rattle.bridge.specs.Stretch.{cached_state}
 use Rattle.bridge.proofs.CachedLaws as laws
 use Rattle.bridge.proofs.RunLaws as run
 use Rattle.bridge.proofs.cached_run.cached_run.Goals as goal

@@ -1,6 +1,5 @@
 -- `bridge::cached_run::maintain` meets its contract. Assumes nothing.
 use Rattle.bridge.proofs.CachedLaws as laws
-use borrow.Author.Rules.{rules}
 use Rattle.bridge.proofs.cached_run.maintain.Goals as goal
 
 pub returns : goal.returns

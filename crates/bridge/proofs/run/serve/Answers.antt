@@ -1,6 +1,5 @@
 -- `bridge::run::serve` meets its contract. Assumes nothing.
 use Rattle.bridge.proofs.RunLaws as laws
-use borrow.Author.Rules.{rules}
 use Rattle.bridge.proofs.run.serve.Goals as goal
 
 pub returns : goal.returns

@@ -1,14 +1,7 @@
 -- `bridge::run::stretch` meets its contract. The invariant: the tables and the answer words are those after the requests from `first` to k, and no length has
 -- changed. The measure is the number of requests that are left. Assumes nothing.
-use mathlib.Core.Path.{◌≡◌}
-use Prim.Native.Nat.{◌-◌, ◌*◌, ◌≤◌}
 use native.Mathlib.Omega.{arith}
-use lib.ListN.{length}
 use borrow.Author.Rules.{rules}
-use Rattle.request_words.specs.Layout.{request_words, answer_words}
-use Rattle.tables.specs.Tables.{tables}
-use Rattle.cache_words.specs.Either.{either_span}
-use Rattle.bridge.specs.Stretch.{cached_state}
 use Rattle.bridge.proofs.RunLaws as laws
 use Rattle.bridge.proofs.run.stretch.Goals as goal
 

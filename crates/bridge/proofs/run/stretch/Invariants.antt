@@ -1,13 +1,10 @@
 use mathlib.Core.Path.{◌≡◌}
 use Prim.Native.Nat.{◌-◌, ◌*◌, ◌≤◌}
-use native.Mathlib.Omega.{arith}
 use lib.ListN.{length}
-use borrow.Author.Rules.{rules}
 use Rattle.request_words.specs.Layout.{request_words, answer_words}
 use Rattle.tables.specs.Tables.{tables}
 use Rattle.cache_words.specs.Either.{either_span}
 use Rattle.bridge.specs.Stretch.{cached_state}
-use Rattle.bridge.proofs.RunLaws as laws
 use Rattle.bridge.proofs.run.stretch.Given as goal
 
 abbrev pub invariant-loop-k : goal.invariant-loop-k

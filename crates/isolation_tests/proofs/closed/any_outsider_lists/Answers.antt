@@ -1,9 +1,5 @@
 -- `isolation_tests::closed::any_outsider_lists` meets its contract. The invariant: none of the numbers passed is found. The measure is how many are left. Assumes nothing.
-use Rattle.isolation_tests.specs.Group.{outsider_lists}
-use Rattle.isolation_groups.specs.Any.{any}
 use Rattle.isolation_groups.proofs.AnyLaws.{any_found, any_next, any-done}
-use Prim.Native.Nat.{◌≤◌}
-use mathlib.Core.Path.{◌≡◌}
 use borrow.Author.Rules.{rules}
 use Rattle.isolation_tests.proofs.closed.any_outsider_lists.Goals as goal
 

@@ -1,9 +1,7 @@
 use Rattle.isolation_tests.specs.Group.{outsider_lists}
 use Rattle.isolation_groups.specs.Any.{any}
-use Rattle.isolation_groups.proofs.AnyLaws.{any_found, any_next, any-done}
 use Prim.Native.Nat.{◌≤◌}
 use mathlib.Core.Path.{◌≡◌}
-use borrow.Author.Rules.{rules}
 use Rattle.isolation_tests.proofs.closed.any_outsider_lists.Given as goal
 
 abbrev pub invariant-loop-left : goal.invariant-loop-left

@@ -1,6 +1,5 @@
 -- `isolation_tests::closed::outsider_lists` meets its contract. Assumes nothing.
 use Rattle.isolation_tests.proofs.Laws as laws
-use borrow.Author.Rules.{rules}
 use Rattle.isolation_tests.proofs.closed.outsider_lists.Goals as goal
 
 pub returns-then-is_member : goal.returns-then-is_member

@@ -1,6 +1,5 @@
 -- `isolation_tests::export::celltimber_covers` meets its contract. Assumes nothing.
 use Rattle.isolation_tests.proofs.Laws as laws
-use borrow.Author.Rules.{rules}
 use Rattle.isolation_tests.proofs.export.celltimber_covers.Goals as goal
 
 pub returns-then-pes-gt-MOST_PES : goal.returns-then-pes-gt-MOST_PES

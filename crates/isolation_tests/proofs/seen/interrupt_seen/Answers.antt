@@ -1,6 +1,5 @@
 -- `isolation_tests::seen::interrupt_seen` meets its contract. Assumes nothing.
 use Rattle.isolation_tests.proofs.Laws as laws
-use borrow.Author.Rules.{rules}
 use Rattle.isolation_tests.proofs.seen.interrupt_seen.Goals as goal
 
 pub returns-then-index-eq0 : goal.returns-then-index-eq0

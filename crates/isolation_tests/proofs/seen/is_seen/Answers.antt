@@ -1,7 +1,6 @@
 -- `isolation_tests::seen::is_seen` meets its contract. Assumes nothing.
 use Rattle.isolation_tests.specs.Seen.{seen}
 use Rattle.kinds.proofs.Tests.{tests}
-use borrow.Author.Rules.{rules}
 use Rattle.isolation_tests.proofs.seen.is_seen.Goals as goal
 
 pub returns-then-table-eq-ENTRIES : goal.returns-then-table-eq-ENTRIES

@@ -1,6 +1,5 @@
 -- `isolation_tests::seen::state_seen` meets its contract. Assumes nothing.
 use Rattle.isolation_tests.proofs.Laws as laws
-use borrow.Author.Rules.{rules}
 use Rattle.isolation_tests.proofs.seen.state_seen.Goals as goal
 
 pub returns-then-word-pes : goal.returns-then-word-pes
