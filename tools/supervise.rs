@@ -1,5 +1,5 @@
-// Runs a program between standard input and standard output, and tells how that ended. A Rattle program
-// has no exit status, and a read or a write that fails ends it in silence.
+// Runs a program between standard input and standard output, and tells how that ended. What the program
+// itself says of a read or a write that fails is passed over.
 //
 //     supervise PROGRAM INPUT
 //
@@ -118,7 +118,12 @@ fn main() {
     let [program, name] = &words[..] else { fail("usage: supervise PROGRAM INPUT") };
     let (name, path) = (name.to_string_lossy(), program.to_string_lossy());
     let (input, output) = (standard(io::stdin()), standard(io::stdout()));
-    let child = Command::new(program).stdin(Stdio::piped()).stdout(Stdio::piped()).spawn();
+    // what PROGRAM would say of a write that fails is said here, or nothing where the reader has left
+    let child = Command::new(program)
+        .stdin(Stdio::piped())
+        .stdout(Stdio::piped())
+        .stderr(Stdio::null())
+        .spawn();
     let mut child = child.unwrap_or_else(|error| {
         fail(format_args!("{path}: it cannot be run: {error}; try 'celltimber check'"))
     });
