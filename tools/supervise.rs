@@ -1,5 +1,5 @@
-// Runs a program between standard input and standard output, and tells how that ended. What the program
-// itself says of a read or a write that fails is passed over.
+// Runs a program between standard input and standard output, and tells how that ended, where that end lies
+// beyond what the program itself can see.
 //
 //     supervise PROGRAM INPUT
 //
@@ -118,12 +118,7 @@ fn main() {
     let [program, name] = &words[..] else { fail("usage: supervise PROGRAM INPUT") };
     let (name, path) = (name.to_string_lossy(), program.to_string_lossy());
     let (input, output) = (standard(io::stdin()), standard(io::stdout()));
-    // what PROGRAM would say of a write that fails is said here, or nothing where the reader has left
-    let child = Command::new(program)
-        .stdin(Stdio::piped())
-        .stdout(Stdio::piped())
-        .stderr(Stdio::null())
-        .spawn();
+    let child = Command::new(program).stdin(Stdio::piped()).stdout(Stdio::piped()).spawn();
     let mut child = child.unwrap_or_else(|error| {
         fail(format_args!("{path}: it cannot be run: {error}; try 'celltimber check'"))
     });
@@ -137,7 +132,12 @@ fn main() {
         drop(to_child);
     });
 
-    match copy(&from_child, &output) {
+    let written = copy(&from_child, &output);
+    if written.is_err() {
+        // nobody reads what the program writes: it would say so too
+        let _ = child.kill();
+    }
+    match written {
         Ok(()) => {}
         Err(Failure::Write(error)) if error.kind() == ErrorKind::BrokenPipe => exit(READER_LEFT),
         Err(Failure::Write(error)) => fail(format_args!(

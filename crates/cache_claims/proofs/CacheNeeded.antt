@@ -19,8 +19,7 @@ use Rattle.profile.specs.Agree.{Closed}
 use Rattle.profile.specs.Tables.{Tables}
 use Rattle.isolation.proofs.Bridges.{group, tables, bridge, opened_bridges}
 use Rattle.isolation.specs.Isolation.{Place}
-use Rattle.isolation.specs.Labels.{labels}
-use Rattle.isolation.proofs.Labels.{watched}
+use Rattle.isolation.specs.Labels.{labels, watched}
 use Rattle.isolation.specs.Machine.{Machine, Met, met, seen, replies}
 use Rattle.isolation.specs.View.{Bridge, View}
 use Rattle.isolation.proofs.Witness.{closed, view}

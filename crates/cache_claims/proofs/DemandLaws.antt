@@ -25,8 +25,8 @@ use Rattle.profile.specs.Fence.{fence_word}
 use Rattle.profile.specs.Owner.{owner}
 use Rattle.profile.specs.Step.{checked, finish, act, act_by, whole}
 use Rattle.profile.specs.Tables.{Tables, Live}
-use Rattle.isolation.specs.Labels.{somes, SameLabel}
-use Rattle.isolation.proofs.Labels.{watched, label_pairs, seen-watched}
+use Rattle.isolation.specs.Labels.{somes, SameLabel, watched}
+use Rattle.isolation.proofs.Labels.{label_pairs, seen-watched}
 use Rattle.isolation.specs.Machine.{Machine, Laws, Runs, Pairs, OfMet, met, seen, end, replies}
 use Rattle.isolation.specs.Unwind.{lifted}
 use Rattle.isolation.proofs.Unwind.{unwound, pairs_both, run_same}

@@ -22,8 +22,7 @@ use Rattle.profile.specs.Agree.{Closed}
 use Rattle.profile.specs.Fence.{fence_word}
 use Rattle.profile.specs.Tables.{Tables}
 use Rattle.isolation.specs.Isolation.{Place}
-use Rattle.isolation.specs.Labels.{labels}
-use Rattle.isolation.proofs.Labels.{watched}
+use Rattle.isolation.specs.Labels.{labels, watched}
 use Rattle.isolation.specs.Machine.{Met, Pairs, OfMet, met, seen, end, replies}
 use Rattle.isolation.specs.View.{Bridge, Written, View}
 use Rattle.edits.specs.Edits.{Bare, bare_answer, bare_after, bare_machine, place_on, Fresh}

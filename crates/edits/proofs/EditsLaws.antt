@@ -19,8 +19,7 @@ use Rattle.profile.specs.Agree.{Closed, Alike}
 use Rattle.profile.proofs.AgreeLaws.{held_sym, held_trans}
 use Rattle.profile.proofs.RequestLaws.{sized_agrees, answered_agrees, after_agrees}
 use Rattle.isolation.specs.Machine.{Machine, Laws}
-use Rattle.isolation.specs.Labels.{SameLabel}
-use Rattle.isolation.proofs.Labels.{watched}
+use Rattle.isolation.specs.Labels.{SameLabel, watched}
 use Rattle.isolation.specs.Isolation.{Place}
 use Rattle.isolation.proofs.Isolation.{own-other, placed-cases, free-cases, event-step, laws}
 use Rattle.edits.proofs.ReachLaws.{reads_reach, edit-away, edit-same, reads-alike}

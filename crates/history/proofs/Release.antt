@@ -22,7 +22,7 @@ use Rattle.profile.specs.Agree.{belongs, owned, Same}
 use Rattle.profile.proofs.AgreeLaws.{alike_refl, held_refl}
 use Rattle.profile.proofs.AnswersLaws.{unsized_decided, unsized_keeps}
 use Rattle.profile.proofs.RequestLaws.{answered_agrees, after_agrees}
-use Rattle.isolation.proofs.Corollaries.{ran}
+use Rattle.isolation.specs.Corollaries.{ran}
 use Rattle.isolation.specs.Isolation.{left}
 use Rattle.isolation.specs.Machine.{end}
 use Rattle.isolation.specs.View.{Bridge, bridge_lengths}

@@ -32,7 +32,7 @@ use Rattle.profile.proofs.Opened.{opened}
 use Rattle.profile.specs.Step.{answered, after}
 use Rattle.profile.proofs.Case.{word_row, calm, states, read, load, pass}
 use Rattle.profile.proofs.FreezeCases.{led}
-use Rattle.isolation.proofs.Corollaries.{ran}
+use Rattle.isolation.specs.Corollaries.{ran}
 use Rattle.isolation.specs.Isolation.{left}
 use Rattle.isolation.specs.View.{Bridge}
 use Rattle.history.specs.History.{Step, leaves, history, freezes, clears, any, cleared, stop_of, record_of, record_at, Zeros, unfrozen}

@@ -16,7 +16,7 @@ use Rattle.profile.specs.Tables.{Tables, Live, state_words}
 use Rattle.profile.specs.Freeze.{stop_word}
 use Rattle.profile.specs.Owner.{owner}
 use Rattle.profile.specs.Step.{answered}
-use Rattle.isolation.proofs.Corollaries.{ran}
+use Rattle.isolation.specs.Corollaries.{ran}
 use Rattle.isolation.specs.Isolation.{left}
 use Rattle.isolation.specs.View.{Bridge}
 use Rattle.history.specs.History.{Step, leaves, history, cleared, stop_of, recorded, record_of, record_at, Zeros, unfrozen}

@@ -5,11 +5,9 @@
 --     heard G a l         the group's own requests of a list, and the fatal messages and fence clears of others that are obeyed
 --     as_if_alone         a group's answers and words in any list are those that it gets when only these are made
 --     view-after          after both lists the bridges meet the premises again, so the claim holds of what follows
---     ran a l             bridge a after list l
 --     isolated-start      the claim with places by the start
---     quiet l             no request of list l is a fatal message or a fence clear; quiet_same: two such lists have the same places if they have the same own
---                         requests, in the same order
---     isolated-quiet      of two such lists the claim asks that the own requests are the same, in the same order, and nothing else
+--     quiet_same          two quiet lists have the same places if they have the same own requests, in the same order
+--     isolated-quiet      of two quiet lists the claim asks that the own requests are the same, in the same order, and nothing else
 --     reason-one-both     if reason 1 holds, it holds for both bridges; reason-one: every answer is then 1, and nothing changes; reason-one-places: and only
 --                         own requests have a place
 -- Assumes nothing.
@@ -34,6 +32,7 @@ use Rattle.isolation.specs.Labels.{labels_by}
 use Rattle.isolation.proofs.Labels.{labels-chosen}
 use Rattle.isolation.specs.View.{Bridge, bridge_lengths, Public, Written, View}
 use Rattle.isolation.proofs.ViewLaws.{agreed, viewed}
+use Rattle.isolation.specs.Corollaries.{ran, quiet}
 use Rattle.isolation.specs.Isolation.{Place, Own, place, places_in, own, answers, left, fence}
 use Rattle.isolation.proofs.Isolation.{place-keeps, places-start, run_agrees, isolation}
 
@@ -55,10 +54,6 @@ as_if_alone G a c l =
     one-bridge G a c l (heard G a l)
     (sym (labels-chosen (after a.tables a.memory) (place G a.tables a.memory) (place-keeps G a.tables a.memory) a.live l))
 
--- the bridge after a list
-abbrev pub ran : Bridge → List Request → Bridge
-ran a l = record { tables = a.tables; memory = a.memory; live = left a l }
-
 pub view-after : (G : PeNumber → Bool) (a b : Bridge) → Closed G a.tables → View G a b → (l k : List Request) → places_in G a l ≡ places_in G b k
     → View G (ran a l) (ran b k)
 view-after G a b c v l k e =
@@ -74,10 +69,6 @@ pub isolated-start : (G : PeNumber → Bool) (a b : Bridge) → Closed G a.table
 isolated-start G a b c v l k e = isolation.isolated G a b c v l k (places-start G a l ∙ e ∙ sym (places-start G b k))
 
 -- ---- no fatal message and no fence clear
-
-abbrev pub quiet : List Request → Bool
-quiet [] = true
-quiet (q ∷ l) = not (given (kind q)) && quiet l
 
 -- such a request has a place where it is the group's own
 kindless : (o : Option Event) (b : Bool) → not (given o) ≡ true → cond b o none ≡ none

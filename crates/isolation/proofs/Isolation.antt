@@ -21,8 +21,8 @@ use Rattle.profile.proofs.EventLaws.{free-calm, obeyed-does, obeyed-keeps}
 use Rattle.profile.proofs.OwnerLaws.{owner-keeps}
 use Rattle.profile.proofs.RequestLaws.{vector_agrees, answered_agrees, after_agrees, after_unseen}
 use Rattle.isolation.specs.Machine.{Machine, Laws, chosen}
-use Rattle.isolation.specs.Labels.{labels_by, SameLabel}
-use Rattle.isolation.proofs.Labels.{watched, labels-start, unwound-labels}
+use Rattle.isolation.specs.Labels.{labels_by, SameLabel, watched}
+use Rattle.isolation.proofs.Labels.{labels-start, unwound-labels}
 use Rattle.isolation.specs.View.{Bridge, Agreed}
 use Rattle.isolation.proofs.ViewLaws.{agreed, written}
 use Rattle.isolation.specs.Isolation.{Isolation, Other, Own, Place, answers, left, machine, other, own, owns, place, places_in}

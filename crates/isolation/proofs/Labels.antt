@@ -7,7 +7,7 @@ use Rattle.kinds.specs.Tests.{given}
 use Rattle.kinds.proofs.Tests.{by_cases, option_cases}
 use Rattle.isolation.specs.Machine.{Machine, Laws, Pairs, OfMet, end, seen, met, chosen}
 use Rattle.isolation.proofs.Unwind.{unwound}
-use Rattle.isolation.specs.Labels.{SameLabel, joined, labels, labels_by, somes}
+use Rattle.isolation.specs.Labels.{SameLabel, joined, labels, labels_by, somes, watched}
 
 labels_by-chosen : {Q X : Type 0} (label : Q → Option X) (l : List Q) → labels_by label (chosen (λ q. given (label q)) l) ≡ labels_by label l
 labels_by-chosen label [] = refl
@@ -26,13 +26,6 @@ module _ {S Q X : Type 0} (next : S → Q → S) (label : S → Q → Option X) 
   labels-chosen s l = labels-start s (chosen (λ q. given (label s q)) l) ∙ labels_by-chosen (label s) l ∙ sym (labels-start s l)
 
 module _ {S Q A X : Type 0} where
-  abbrev pub watched : Machine S Q A → (S → Q → Option X) → Machine S Q (Option A)
-  watched m label = record {
-    next = m.next;
-    answer = λ s q. cond (m.own s q) (some (m.answer s q)) none;
-    own = λ s q. given (label s q);
-  }
-
   module _ (m n : Machine S Q A) (a b : S → Q → Option X) where
     -- no label is left on the left: nothing on the right is in a pair
     none_left : (t : S) (k : List Q) → [] ≡ labels n.next b t k → Pairs (OfMet (SameLabel a b)) [] (met (watched n b) t k)

@@ -9,8 +9,10 @@
 --     labels_by label l   the labels of a list by one state; labels-start: where no request changes a label, these are the labels; labels-chosen:
 --                         and those of the requests with a label alone
 -- Assumes nothing.
-use Rattle.std.specs.Prelude.{◌≡◌, List, [], ◌∷◌}
+use Rattle.std.specs.Prelude.{◌≡◌, cond, List, [], ◌∷◌}
 use Rattle.std.proofs.Math.Option.{Option, none, some}
+use Rattle.kinds.specs.Tests.{given}
+use Rattle.isolation.specs.Machine.{Machine}
 
 module _ {X : Type 0} where
   -- a list with one more in front, if there is one
@@ -28,6 +30,14 @@ labels next label s (q ∷ l) = joined (label s q) (labels next label (next s q)
 
 abbrev pub SameLabel : {S Q X : Type 0} → (a b : S → Q → Option X) → S → S → Q → Q → Type 0
 SameLabel a b s t q p = a s q ≡ b t p
+
+module _ {S Q A X : Type 0} where
+  abbrev pub watched : Machine S Q A → (S → Q → Option X) → Machine S Q (Option A)
+  watched m label = record {
+    next = m.next;
+    answer = λ s q. cond (m.own s q) (some (m.answer s q)) none;
+    own = λ s q. given (label s q);
+  }
 
 -- ---- where no request changes a label
 

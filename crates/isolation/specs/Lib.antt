@@ -1,3 +1,4 @@
+pub mod Corollaries
 pub mod Isolation
 pub mod Labels
 pub mod Machine

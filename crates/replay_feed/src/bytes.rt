@@ -11,7 +11,7 @@ use replay_text::LINE_FEED;
 // The bytes of a line from place `from` of the input on, kept after those that are pending.
 fn keep(line: &mut [u8], pending: usize, input: &[u8], from: usize) -> Kept
     requires { (length line.old ≡ line_kept) × (pending ≤ line_kept) × (from ≤ length input.now) }
-    ensures { KeptTo (record { line = line.entry.now; pending = pending }) input.now from result (record { line = line.exit.now; pending = result.pending }) }
+    ensures { KeptTo (record { line = line.old; pending = pending }) input.now from result (record { line = line.new; pending = result.pending }) }
 {
     let mut end = pending;
     let mut i = from;

@@ -4,7 +4,8 @@ use Rattle.kinds.specs.Words.{at}
 use Rattle.kinds.specs.declared.number.PeNumber.{PeNumber}
 use Rattle.profile.specs.Agree.{Closed}
 use Rattle.profile.specs.Fence.{fence_word}
-use Rattle.isolation.proofs.Corollaries.{quiet, quiet_same}
+use Rattle.isolation.specs.Corollaries.{quiet}
+use Rattle.isolation.proofs.Corollaries.{quiet_same}
 use Rattle.isolation.specs.Isolation.{own}
 use Rattle.isolation.specs.View.{Written, View}
 use Rattle.replay_text.proofs.EveryLine.{sized-cases, every_line}

@@ -3,7 +3,7 @@
 --     text-isolated       THE THEOREM: the claim of a session, with the own requests in the place of places
 -- Assumes nothing.
 use Rattle.std.specs.Prelude.{◌≡◌, true, List, ◌∷◌}
-use Rattle.isolation.proofs.Corollaries.{quiet}
+use Rattle.isolation.specs.Corollaries.{quiet}
 use Rattle.replay_text.specs.declared.Line.{Line}
 use Rattle.replay_text.specs.SessionIsolation.{requests_in}
 

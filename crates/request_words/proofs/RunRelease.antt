@@ -4,7 +4,7 @@ use Rattle.std.proofs.Common.{sym, ap, ◌∙◌, arith}
 use Rattle.kinds.specs.declared.request.Request.{Request}
 use Rattle.history.specs.History.{unfrozen}
 use Rattle.history.proofs.Release.{released, left_both}
-use Rattle.isolation.proofs.Corollaries.{ran}
+use Rattle.isolation.specs.Corollaries.{ran}
 use Rattle.isolation.specs.Isolation.{left}
 use Rattle.isolation.specs.View.{Bridge}
 use Rattle.profile.specs.Step.{answered}

@@ -15,7 +15,7 @@ use Rattle.kinds.specs.declared.request.Request.{Request}
 use Rattle.history.specs.History.{history, cleared, stop_of, record_of, record_at, unfrozen}
 use Rattle.history.proofs.HistoryCases.{shared, start, pe}
 use Rattle.history.proofs.ReleaseCases.{zeros}
-use Rattle.isolation.proofs.Corollaries.{ran}
+use Rattle.isolation.specs.Corollaries.{ran}
 use Rattle.profile.proofs.Case.{calm, state_row, ended}
 use Rattle.profile.specs.Freeze.{stop_word}
 use Rattle.profile.proofs.Opened.{opened}
