@@ -1,8 +1,8 @@
 -- Theorems of specs/Labels.antt. Assumes nothing.
-use Rattle.std.specs.Prelude.{◌≡◌, refl, true, cond, List, [], ◌∷◌, ℕ}
+use Rattle.std.specs.Prelude.{◌≡◌, refl, true, List, [], ◌∷◌, ℕ}
 use Rattle.std.proofs.Common.{sym, ap, ◌∙◌, arith}
 use Rattle.std.proofs.Math.Path.{fun_ext}
-use Rattle.std.proofs.Math.Option.{Option, none, some}
+use Rattle.std.proofs.Math.Option.{Option, some}
 use Rattle.kinds.specs.Tests.{given}
 use Rattle.kinds.proofs.Tests.{by_cases, option_cases}
 use Rattle.isolation.specs.Machine.{Machine, Laws, Pairs, OfMet, end, seen, met, chosen}
