@@ -1,4 +1,6 @@
--- Theorems of specs/Release.antt. Assumes nothing.
+-- Theorems of specs/Release.antt.
+--     cached_released     THE THEOREM
+-- Assumes nothing.
 use Rattle.std.specs.Prelude.{◌≡◌, Bool, true, false, List, [], ◌∷◌, ◌++◌, ℕ, ◌*◌, ◌<◌, ◌≤◌, eqb, length}
 use Rattle.std.proofs.Math.Path.{refl}
 use Rattle.std.proofs.Common.{sym, ap, ◌∙◌, eq-eqb}

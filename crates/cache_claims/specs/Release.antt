@@ -3,8 +3,7 @@
 --     cached_history f x l THE HISTORY of a list of operations
 --     thaw f x            x with 0 in all words of the PEs: the fence word, interrupts, memory and cache are as they are
 --     CachedReleased      THE CLAIM, as a type that a promise can cite
---     cached_released     THE THEOREM
--- Assumes nothing.
+-- The theorems are in proofs/Release.antt. Assumes nothing.
 use Rattle.std.specs.Prelude.{◌≡◌, true, List, [], ◌<◌}
 use Rattle.kinds.specs.Words.{at}
 use Rattle.kinds.specs.declared.answer.Reason.TheVariants.{BadFirmware}

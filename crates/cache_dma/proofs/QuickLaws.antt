@@ -1,4 +1,6 @@
--- Theorems of specs/Quick.antt. Assumes nothing.
+-- Theorems of specs/Quick.antt.
+--     looked_quick        it is what `looked` puts in the place of the walk
+-- Assumes nothing.
 use Rattle.std.specs.Prelude.{◌≡◌, List, ℕ}
 use Rattle.kinds.specs.Checked.{Walk}
 use Rattle.kinds.proofs.Tests.{by_cases}

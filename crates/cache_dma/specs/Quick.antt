@@ -1,7 +1,6 @@
 -- What the cache says of a DMA whose page table is asked for, as the code has it.
 --     quick_for i c p e q  the outcome of a hit whose word permits the DMA, or a miss
---     looked_quick        it is what `looked` puts in the place of the walk
--- Assumes nothing.
+-- The theorems are in proofs/QuickLaws.antt. Assumes nothing.
 use Rattle.std.specs.Prelude.{cond, List, ℕ}
 use Rattle.kinds.specs.Checked.{Checked, Ready}
 use Rattle.kinds.specs.Number.{no_word}

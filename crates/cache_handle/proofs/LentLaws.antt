@@ -3,7 +3,7 @@
 --     looked-pe, looked-kept  the PE of a check, and one that is answered, are the same after the cache was looked at
 --     looked-placed       a check after the cache was looked at still names the owner
 --     kept_fill           a request that is answered by the checks alone fills no slot
---     either-is           what the checks and their finish come to is what the bridge with a cache, or the one without, answers and leaves
+--     either-answers, either-leaves  what the checks and their finish come to is what the bridge with a cache, or the one without, answers and leaves
 -- Assumes nothing.
 use Rattle.std.specs.Prelude.{◌≡◌, Bool, true, false, List, ℕ, length}
 use Rattle.std.proofs.Math.Path.{refl}

@@ -1,4 +1,6 @@
--- Theorems of specs/Either.antt. Assumes nothing.
+-- Theorems of specs/Either.antt.
+--     bare-span           a span on the bridge without a cache is that of its own run
+-- Assumes nothing.
 use Rattle.std.specs.Prelude.{◌≡◌, false, List}
 use Rattle.std.proofs.Math.Path.{refl}
 use Prim.Native.Nat.{ℕ, zero, suc}

@@ -1,4 +1,9 @@
--- Theorems of specs/OperationsLaws.antt. Assumes nothing.
+-- Decoding what was encoded, and requests of the bridge as operations. Theorems of specs/OperationsLaws.antt.
+--     operation-back      THE LAW: the words of an operation, wherever they stand in a list, name it
+--     operation_in_lem    operation k of a list that has its words
+--     plain-operation     words of the kinds of requests name the same request to both bridges; plain_of_lem: words that name an edit or an invalidate to the bridge
+--                         with a cache name none to the one without; plain_at, maintained-at: in a list
+-- Assumes nothing.
 use Rattle.std.specs.Prelude.{◌≡◌, true, false, List, [], ◌++◌, ℕ, ◌+◌, ◌*◌, ◌/◌, ◌≤◌, eqb, length}
 use Rattle.std.proofs.Math.Path.{refl, sym}
 use Rattle.std.proofs.Common.{◌∙◌, add-zero, arith, get_or-append-add}

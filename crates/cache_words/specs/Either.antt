@@ -3,8 +3,7 @@
 --                         the cache is not looked at
 --     span .. r k n       on any machine, n requests from request k on, served on r
 --     span_none, span-one no request, and one more; ran_on-span: after the first k requests
---     bare-span           a span on the bridge without a cache is that of its own run
--- Assumes nothing.
+-- The theorems are in proofs/Either.antt. Assumes nothing.
 use Rattle.std.specs.Prelude.{◌≡◌, Bool, true, false, List}
 use Rattle.std.proofs.Math.Path.{refl}
 use Prim.Native.Nat.{ℕ, zero, suc, ◌+◌}

@@ -1,4 +1,9 @@
--- Theorems of specs/Release.antt. Assumes nothing.
+-- Theorems of specs/Release.antt.
+--     steps-released, released    THE THEOREMS, the second by the first
+--     left-leaves         a list of requests leaves what its history leaves
+--     history-both, left_both     lists one after another are one list
+--     released-after      after the release the words that a next request leaves the PE are those too that it would leave if no PE had been frozen
+-- Assumes nothing.
 use Rattle.std.specs.Prelude.{◌≡◌, refl, Bool, true, false, List, [], ◌∷◌, ◌++◌, ℕ, ◌*◌, ◌<◌, ◌≤◌, length}
 use Rattle.std.proofs.Common.{sym, ap, ◌∙◌, arith, eqb-true, eq-eqb}
 use Rattle.std.proofs.Math.Option.{Option, none, some}

@@ -1,4 +1,8 @@
--- Theorems of specs/Told.antt. Assumes nothing.
+-- Theorems of specs/Told.antt.
+--     decided-told        THE LAW: of every request, on any tables
+--     told-freeze, told-clear     it is a freeze of the same PEs with the same records, and a clear of the same parts
+--     told-stop, told_record      so stop word and record by the history are those that are told from the answers
+-- Assumes nothing.
 use Rattle.std.specs.Prelude.{◌≡◌, Bool, false, not, ◌&&◌, List, [], ◌∷◌, ℕ, ◌%◌, ltb, eqb, length}
 use Rattle.std.proofs.Math.Path.{refl, sym}
 use Rattle.std.proofs.Common.{ap, ◌∙◌}

@@ -1,11 +1,7 @@
 -- 02, [14]: RELEASE BRINGS BACK WHAT THE HISTORY SAYS.
 --     StepsReleased       THE CLAIM of any steps, for every machine whose requests do such steps
 --     Released            THE CLAIM of [14], as a type that a promise can cite: of any list of requests
---     steps-released, released    THE THEOREMS, the second by the first
---     left-leaves         a list of requests leaves what its history leaves
---     history-both, left_both     lists one after another are one list
---     released-after      after the release the words that a next request leaves the PE are those too that it would leave if no PE had been frozen
--- Assumes nothing.
+-- The theorems are in proofs/Release.antt. Assumes nothing.
 use Rattle.std.specs.Prelude.{◌≡◌, true, List, ◌++◌, ◌*◌, ◌<◌, ◌≤◌, length}
 use Rattle.std.proofs.Math.Option.{none}
 use Rattle.kinds.specs.Words.{at}

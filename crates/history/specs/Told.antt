@@ -2,11 +2,8 @@
 --     freezing r          a refusal with reason r is a freeze: 5 to 9, 15 and 17
 --     told_effect q a     the effect on stop bits and records of request q that is answered a: of a DMA by its refusal, of an error message and of a clear by done
 --     lasting x           of effect x what changes stop bits and records
---     decided-told        THE LAW: of every request, on any tables
 --     told_step f q a     the step that they tell, with the owner by N and the requesters (public_owner); told_history a l: those of a list
---     told-freeze, told-clear     it is a freeze of the same PEs with the same records, and a clear of the same parts
---     told-stop, told_record      so stop word and record by the history are those that are told from the answers
--- Assumes nothing.
+-- The theorems are in proofs/Told.antt. Assumes nothing.
 use Rattle.std.specs.Prelude.{◌≡◌, Bool, true, false, cond, ◌&&◌, ◌||◌, List, [], leb, eqb}
 use Rattle.kinds.specs.Answer.{reason_number, is_done}
 use Rattle.kinds.specs.Number.{no_word}

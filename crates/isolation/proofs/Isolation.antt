@@ -1,4 +1,10 @@
--- Theorems of specs/Isolation.antt. Assumes nothing.
+-- Theorems of specs/Isolation.antt.
+--     isolation           THE THEOREM
+--     places-start        the places by the start: no request changes them
+--     belongs-keeps       no request changes which requests belong to the group; place-keeps: nor which have a place
+--     laws                the laws of one request are laws of two machines
+--     run_agrees          two lists, in the relations of those laws
+-- Assumes nothing.
 use Rattle.std.specs.Prelude.{◌≡◌, refl, Bool, true, false, cond, List, [], ◌∷◌, ℕ}
 use Rattle.std.proofs.Common.{sym, ap, ap₂, subst, ◌∙◌, arith}
 use Rattle.std.proofs.Math.Option.{Option, none, some}

@@ -1,4 +1,8 @@
--- Theorems of specs/Labels.antt. Assumes nothing.
+-- Theorems of specs/Labels.antt.
+--     label_pairs         the requests of two lists with equal labels stand in pairs of the same label
+--     seen-watched        what m answers its own requests is what is looked at
+--     unwound-labels      THE THEOREM: laws of two watched machines, and lists with equal labels
+-- Assumes nothing.
 use Rattle.std.specs.Prelude.{◌≡◌, refl, true, List, [], ◌∷◌, ℕ}
 use Rattle.std.proofs.Common.{sym, ap, ◌∙◌, arith}
 use Rattle.std.proofs.Math.Path.{fun_ext}

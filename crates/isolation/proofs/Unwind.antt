@@ -1,4 +1,10 @@
--- Theorems of specs/Unwind.antt. Assumes nothing.
+-- Theorems of specs/Unwind.antt.
+--     aligned             from `Laws` to two lists that stand side by side
+--     paired              lists whose owned requests match in order do stand side by side
+--     unwound             THE THEOREM, for any `Match`
+--     pairs_both          requests that match in two ways, in order
+--     run_same            a machine that runs as another one does: every list is answered the same and leaves the same
+-- Assumes nothing.
 use Rattle.std.specs.Prelude.{◌≡◌, refl, true, List, [], ◌∷◌}
 use Rattle.kinds.proofs.Tests.{by_cases}
 use Rattle.isolation.specs.Machine.{Machine, Align, Laws, Runs, Pairs, OfMet, end, seen, met, replies}

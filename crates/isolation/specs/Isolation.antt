@@ -7,13 +7,8 @@
 --     answers G a l       what the group's own requests are answered, in order, each in the state that the requests before it left
 --     left a l            state and interrupts after the list; fence a l: the fence word then
 --     Isolation           THE CLAIM, as a type that a promise can cite
---     isolation           THE THEOREM
 --     own G a l           the group's own requests of list l, in order; places-own: they are the own ones among its places (owns)
---     places-start        the places by the start: no request changes them
---     belongs-keeps       no request changes which requests belong to the group; place-keeps: nor which have a place
---     laws                the laws of one request are laws of two machines
---     run_agrees          two lists, in the relations of those laws
--- Assumes nothing.
+-- The theorems are in proofs/Isolation.antt. Assumes nothing.
 use Rattle.std.specs.Prelude.{◌≡◌, Bool, cond, List, [], ◌∷◌, ℕ}
 use Rattle.std.proofs.Math.Option.{Option, none, some}
 use Rattle.kinds.specs.Words.{at}

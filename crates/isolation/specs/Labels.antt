@@ -3,12 +3,9 @@
 --     labels next label s l   the labels of a list, in order, each by the state that its request meets; a request without one is passed over
 --     watched m label     the machine m, whose requests with a label stand in pairs; of one that m does not own the answer is not looked at
 --     SameLabel           two requests match by having the same label
---     label_pairs         the requests of two lists with equal labels stand in pairs of the same label
---     seen-watched        what m answers its own requests is what is looked at
---     unwound-labels      THE THEOREM: laws of two watched machines, and lists with equal labels
 --     labels_by label l   the labels of a list by one state; labels-start: where no request changes a label, these are the labels; labels-chosen:
 --                         and those of the requests with a label alone
--- Assumes nothing.
+-- The theorems are in proofs/Labels.antt. Assumes nothing.
 use Rattle.std.specs.Prelude.{◌≡◌, cond, List, [], ◌∷◌}
 use Rattle.std.proofs.Math.Option.{Option, none, some}
 use Rattle.kinds.specs.Tests.{given}

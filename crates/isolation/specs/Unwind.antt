@@ -1,11 +1,6 @@
 -- The unwinding theorem: from laws of one request to two machines and two lists of requests. No bridge is named here.
---     aligned             from `Laws` to two lists that stand side by side
---     paired              lists whose owned requests match in order do stand side by side
---     unwound             THE THEOREM, for any `Match`
---     pairs_both          requests that match in two ways, in order
---     run_same            a machine that runs as another one does: every list is answered the same and leaves the same
 --     lifted              laws of two machines are laws of two that run as they do
--- Assumes nothing.
+-- The theorems are in proofs/Unwind.antt. Assumes nothing.
 use Rattle.std.proofs.Common.{sym, ◌∙◌}
 use Rattle.isolation.specs.Machine.{Machine, Laws, Runs}
 

@@ -1,4 +1,10 @@
--- Theorems of specs/Tests.antt. Assumes nothing.
+-- Theorems of specs/Tests.antt.
+--     by_cases b f g      go by the two values of b; cond_cases: what holds of both holds of the one that b picks
+--     clash p q           a test is not both true and false; not_true, not_false: the test behind a negation
+--     and_left, and_right the parts of a conjunction that holds; and_both puts them together; and-true, and_false: by its last part
+--     or_cases            the part of a disjunction that holds; or_left and or_right put one in; or_first, or_second: the parts of one that does not hold
+--     tests               the rule set that turns a fact about numbers into the value of its test
+-- Assumes nothing.
 use Rattle.std.specs.Prelude.{◌≡◌, refl, Bool, true, false, cond, not, ◌&&◌, ◌||◌, List, [], ◌∷◌, ◌++◌, ℕ, zero, suc, get_or}
 use Rattle.std.proofs.Common.{sym, arith, lt-ltb, le-ltb, le-leb, eq-eqb, ne_eqb}
 use Rattle.std.proofs.Math.Option.{Option, none, some}

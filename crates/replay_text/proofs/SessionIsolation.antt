@@ -1,4 +1,6 @@
--- Theorems of specs/SessionIsolation.antt. Assumes nothing.
+-- Theorems of specs/SessionIsolation.antt.
+--     session-isolation   THE THEOREM
+-- Assumes nothing.
 use Rattle.std.specs.Prelude.{◌≡◌, Bool, true, ℕ}
 use Rattle.std.proofs.Math.Path.{refl}
 use Rattle.std.proofs.Common.{sym, ap, ◌∙◌}

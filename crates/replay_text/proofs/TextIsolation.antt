@@ -1,4 +1,7 @@
--- Theorems of specs/TextIsolation.antt. Assumes nothing.
+-- Theorems of specs/TextIsolation.antt.
+--     lines-quiet         no line is a fatal message or a fence clear
+--     text-isolated       THE THEOREM: the claim of a session, with the own requests in the place of places
+-- Assumes nothing.
 use Rattle.std.specs.Prelude.{◌≡◌, refl, Bool, true, List, [], ◌∷◌, map, ℕ}
 use Rattle.kinds.specs.Words.{at}
 use Rattle.kinds.specs.declared.number.PeNumber.{PeNumber}

@@ -6,8 +6,7 @@
 --                         output line but the first, which counts the neighbours' lines too
 --     lines_left s l      the session after the lines
 --     SessionIsolation    THE CLAIM: `Isolation`, with lines in the place of requests
---     session-isolation   THE THEOREM
--- Assumes nothing.
+-- The theorems are in proofs/SessionIsolation.antt. Assumes nothing.
 use Rattle.std.specs.Prelude.{◌≡◌, Bool, true, false, cond}
 use mathlib.Core.List.{List, [], ◌∷◌}
 use Rattle.kinds.specs.Answer.{numbered}

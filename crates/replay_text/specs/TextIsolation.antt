@@ -1,7 +1,5 @@
 -- DEMAND 3, of the lines of a text. None of them is a fatal message or a fence clear, so that two texts have to agree on the own requests alone.
---     lines-quiet         no line is a fatal message or a fence clear
---     text-isolated       THE THEOREM: the claim of a session, with the own requests in the place of places
--- Assumes nothing.
+-- The theorems are in proofs/TextIsolation.antt. Assumes nothing.
 use Rattle.std.specs.Prelude.{◌≡◌, true, List, ◌∷◌}
 use Rattle.isolation.specs.Corollaries.{quiet}
 use Rattle.replay_text.specs.declared.Line.{Line}

@@ -1,4 +1,6 @@
--- Theorems of specs/RunIsolation.antt. Assumes nothing.
+-- Theorems of specs/RunIsolation.antt.
+--     run_isolation       THE THEOREM
+-- Assumes nothing.
 use Rattle.std.specs.Prelude.{◌≡◌, Bool, List, [], ◌++◌, map, drop}
 use Rattle.std.proofs.Math.Path.{refl}
 use Rattle.std.proofs.Common.{sym, ap, ◌∙◌, append_assoc, arith, length-append}

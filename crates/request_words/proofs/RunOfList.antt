@@ -1,4 +1,6 @@
--- Theorems of specs/RunOfList.antt. Assumes nothing.
+-- Theorems of specs/RunOfList.antt.
+--     run_of_list         THE THEOREM
+-- Assumes nothing.
 use Rattle.std.specs.Prelude.{◌≡◌, List, ◌++◌, ℕ, ◌+◌, ◌*◌, ◌/◌, ◌<◌, ◌≤◌, length, take}
 use Rattle.std.proofs.Common.{sym, ◌∙◌, arith, length-append, length-take-le}
 use Rattle.std.proofs.Math.Nat.{min-eq_left, min-eq_right}

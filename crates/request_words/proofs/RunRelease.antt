@@ -1,4 +1,6 @@
--- Theorems of specs/RunRelease.antt. Assumes nothing.
+-- Theorems of specs/RunRelease.antt.
+--     run_released        THE THEOREM
+-- Assumes nothing.
 use Rattle.std.specs.Prelude.{◌≡◌, List, ◌++◌, ℕ, zero, suc, ◌*◌, ◌<◌, ◌≤◌, length}
 use Rattle.std.proofs.Common.{sym, ap, ◌∙◌, arith}
 use Rattle.kinds.specs.declared.request.Request.{Request}

@@ -3,8 +3,7 @@
 --                         of others that are answered done, by their kind
 --     own_answers ..      the words of the answers to the own requests, in order, in the answer words x; own_answers_from ..: of n requests from request k
 --     RunIsolation        THE CLAIM: `Isolation`, with words in the place of requests and answers
---     run_isolation       THE THEOREM
--- Assumes nothing.
+-- The theorems are in proofs/RunIsolation.antt. Assumes nothing.
 use Rattle.std.specs.Prelude.{◌≡◌, Bool, cond, List, [], ◌∷◌}
 use Prim.Native.Nat.{ℕ, zero, suc}
 use Rattle.kinds.specs.Words.{at}

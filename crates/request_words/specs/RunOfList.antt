@@ -3,8 +3,7 @@
 --                         leave, and their answers in the place of the first answer words
 --     RunOfList           THE CLAIM: of any requests that a caller can bring, and what follows their words, all are served where the answer words
 --                         have room, and else the first ones, as many as they have room for
---     run_of_list         THE THEOREM
--- Assumes nothing.
+-- The theorems are in proofs/RunOfList.antt. Assumes nothing.
 use Rattle.std.specs.Prelude.{◌≡◌, List, ◌++◌, ℕ, ◌*◌, ◌/◌, ◌<◌, ◌≤◌, length, take}
 use Rattle.kinds.specs.declared.request.Request.{Request}
 use Rattle.isolation.specs.Machine.{end}

@@ -4,8 +4,7 @@
 --     answers_first ..    the words of its first answer
 --     RunReleased         THE CLAIM: `Released`, with words in the place of requests and answers. Before the run stands any list of requests, those of
 --                         earlier runs
---     run_released        THE THEOREM
--- Assumes nothing.
+-- The theorems are in proofs/RunRelease.antt. Assumes nothing.
 use Rattle.std.specs.Prelude.{◌≡◌, true, List, ◌++◌, ℕ, ◌<◌}
 use Rattle.kinds.specs.Words.{at}
 use Rattle.kinds.specs.declared.lookup.Owner.TheVariants.{Of}
