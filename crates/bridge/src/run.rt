@@ -45,7 +45,7 @@ fn serve(
 
 // Whether request `k` is left to the caller: with a cache, an edit or an invalidate.
 fn stops(cached: bool, requests: &[u64], k: usize) -> bool
-    ensures { result ≡ (cached && of_cache_in requests.now k) }
+    ensures { result ≡ cached && of_cache_in requests.now k }
 {
     if cached {
         return cache_lists::is_of_cache(requests, k);

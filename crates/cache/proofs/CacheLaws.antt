@@ -9,21 +9,21 @@
 --     runs                THE SIMULATION: the bridge with a cache runs as the one without
 --     Known f x, checked-known    a walk is of a PE below N, by the entry of it that the address picks, which has a page table
 -- Assumes nothing.
-use Rattle.std.specs.Prelude.{◌≡◌, Bool, true, false, ◌&&◌, List, ℕ, ◌+◌, ◌*◌, ◌-◌, ◌<◌, ◌^◌, ltb, eqb, length, set}
+use Rattle.kinds.specs.declared.lookup.WalkError.TheVariants.{Forbidden, Outside}
+use Rattle.kinds.specs.Lookup.{Found, frame}
+use Rattle.std.specs.Prelude.{◌≡◌, Bool, true, false, ◌&&◌, List, ℕ, ◌+◌, ◌*◌, ◌-◌, ◌<◌, ◌^◌, ltb, eqb, length, set, Ok, Err}
 use Rattle.std.proofs.Math.Path.{refl, subst}
 use Rattle.std.proofs.Common.{sym, ap, ◌∙◌, length-set}
 use native.Mathlib.Omega.{arith}
 use Rattle.std.proofs.Math.Seq.{set_out}
 use borrow.Author.Tests.{eqb-true, eqb-false, ne_eqb, lt-ltb, ltb-false}
-use Rattle.kinds.specs.Checked.{Checked, Kept, Ready, Walk, Fences}
+use Rattle.kinds.specs.declared.outcome.Check.{Check}
+use Rattle.kinds.specs.declared.outcome.Check.TheVariants.{Kept, Ready, Walk, Fences}
 use Rattle.kinds.specs.Has.{has}
 use Rattle.kinds.proofs.Has.{has_of}
 use Rattle.kinds.specs.Number.{no_word}
 use Rattle.kinds.proofs.Tests.{by_cases, clash, and_left, and_right}
 use Rattle.kinds.proofs.WordsLaws.{at_set}
-use Rattle.kinds.specs.declared.lookup.Found.{Found}
-use Rattle.kinds.specs.declared.lookup.Found.TheVariants.{Frame, Forbidden, Outside}
-use Rattle.kinds.specs.declared.lookup.Owner.TheVariants.{Of}
 use Rattle.kinds.specs.declared.number.ByteAddress.{ByteAddress}
 use Rattle.kinds.specs.declared.number.PageNumber.{PageNumber}
 use Rattle.kinds.specs.declared.number.PageSize.{PageSize}
@@ -53,7 +53,7 @@ use Rattle.cache.specs.Cache.{page_for, slot_for, word_for, is_hit, found_by, lo
 pub record Right (f : Tables) (m : List ℕ) (tag half page word : ℕ) : Type 0 where
   pub table : tabled f tag half ≡ true
   pub at_place : ByteAddress
-  pub found : (walk m (entry f (tagged tag) half) (record { 0 = page })).found ≡ Frame at_place word
+  pub found : (walk m (entry f (tagged tag) half) (record { 0 = page })).found ≡ frame at_place word
 
 pub record Sound (f : Tables) (m c : List ℕ) : Type 0 where
   pub long : length c ≡ cache_words
@@ -61,7 +61,7 @@ pub record Sound (f : Tables) (m c : List ℕ) : Type 0 where
 
 -- ---- what is known of a walk
 
-abbrev pub Known : Tables → Checked → Type 0
+abbrev pub Known : Tables → Check → Type 0
 Known f (Kept a) = Unit {0}
 Known f (Ready p o) = Unit {0}
 Known f (Walk p e q) = (p.0 < f.sizes.pes) × (e ≡ entry f p (half q.address)) × (paged e ≡ true)
@@ -71,12 +71,12 @@ walks-paged : (e : TranslationEntry) (o : ByteAddress) → walks e o ≡ true �
 unfolding walks
 walks-paged e o w = and_left (paged e) (ltb o.0 (2 ^ span e)) w
 
-pub checked-known : (f : Tables) (n : ℕ) (s : Live) (q : Request) (x : Checked) → checked_on f n s q ≡ x → Known f x
+pub checked-known : (f : Tables) (n : ℕ) (s : Live) (q : Request) (x : Check) → checked_on f n s q ≡ x → Known f x
 checked-known f n s q (Kept a) h = tt
 checked-known f n s q (Ready p o) h = tt
 checked-known f n s q (Walk p e d) h =
-    let o : owner f s q ≡ Of p = subst (Placed (owner f s q)) h (checked-owner f.sizes f.installed f.requesters f.entries f.windows f.segments s _ q) in
-    let low : Below f.sizes.pes (Of p) = subst (Below f.sizes.pes) o (owner-below f s q) in
+    let o : owner f s q ≡ Ok p = subst (Placed (owner f s q)) h (checked-owner f.sizes f.installed f.requesters f.entries f.windows f.segments s _ q) in
+    let low : Below f.sizes.pes (Ok p) = subst (Below f.sizes.pes) o (owner-below f s q) in
     let k : Walkable f p (Walk p e d) = subst (Walkable f p) h (checked-walks f n s q p o) in
     (low, k.1, rw k.1 (walks-paged (entry f p (half d.address)) (offset d.address) k.3))
 checked-known f n s q (Fences b) h = tt
@@ -84,37 +84,37 @@ checked-known f n s q (Fences b) h = tt
 -- ---- a hit is answered as the walk would be
 
 -- a word that allows the direction lands the same wherever it stands
-landed-place : (s : PageSize) (d : Direction) (o a b : ByteAddress) (w : ℕ) → allows d w ≡ true → landed s d o (Frame a w) ≡ landed s d o (Frame b w)
+landed-place : (s : PageSize) (d : Direction) (o a b : ByteAddress) (w : ℕ) → allows d w ≡ true → landed s d o (frame a w) ≡ landed s d o (frame b w)
 unfolding landed
 landed-place s d o a b w u = rw u
 
 module _ (f : Tables) (m c : List ℕ) (s : Sound f m c) where
   right-found : (i : ℕ) (p : PeNumber) (h : ℕ) (q : PageNumber) → tag_of c i ≡ p.0 + 1 → half_of c i ≡ h → page_of_slot c i ≡ q.0
-      → Right f m (tag_of c i) (half_of c i) (page_of_slot c i) (word_of c i) → (a : ByteAddress) × ((walk m (entry f p h) q).found ≡ Frame a (word_of c i))
+      → Right f m (tag_of c i) (half_of c i) (page_of_slot c i) (word_of c i) → (a : ByteAddress) × ((walk m (entry f p h) q).found ≡ frame a (word_of c i))
   right-found i p h q t u v r =
       let z : tag_of c i - 1 ≡ p.0 = omega arith in (r.at_place, rw (z, u, v) at r.found)
 
   -- the word of a slot that holds a page is found by its walk
   held_found : (i : ℕ) (p : PeNumber) (h : ℕ) (q : PageNumber) → holds c i p h q ≡ true
-      → (a : ByteAddress) × ((walk m (entry f p h) q).found ≡ Frame a (word_of c i))
+      → (a : ByteAddress) × ((walk m (entry f p h) q).found ≡ frame a (word_of c i))
   held_found i p h q o =
       let t = held_tag c i p h q o in
       right-found i p h q t (held-half c i p h q o) (held-page c i p h q o) (s.right i (λ z. let y : p.0 + 1 ≡ 0 = sym t ∙ z in absurd (omega arith)))
 
   module _ (i : ℕ) (p : PeNumber) (e : TranslationEntry) (q : DmaRequest) (known : Known f (Walk p e q)) where
     -- the walk, where the slot has its page
-    hit_found : is_hit c p e q ≡ true → (a : ByteAddress) × ((walk m e (page_for e q)).found ≡ Frame a (word_for c p e q))
+    hit_found : is_hit c p e q ≡ true → (a : ByteAddress) × ((walk m e (page_for e q)).found ≡ frame a (word_for c p e q))
     unfolding is_hit
     hit_found o =
         let h = half q.address in
-        subst (λ (x : TranslationEntry). (a : ByteAddress) × ((walk m x (page_for e q)).found ≡ Frame a (word_for c p e q))) (sym known.1)
+        subst (λ (x : TranslationEntry). (a : ByteAddress) × ((walk m x (page_for e q)).found ≡ frame a (word_for c p e q))) (sym known.1)
         (held_found (slot_for p e q) p h (page_for e q) (and_left (holds c (slot_for p e q) p h (page_for e q)) (allows q.direction (word_for c p e q)) o))
 
     hit_allows : is_hit c p e q ≡ true → allows q.direction (word_for c p e q) ≡ true
     unfolding is_hit
     hit_allows o = and_right (holds c (slot_for p e q) p (half q.address) (page_for e q)) (allows q.direction (word_for c p e q)) o
 
-    hit_same : is_hit c p e q ≡ true → found_by i p e q (Frame no_word (word_for c p e q)) e.levels ≡ finish i m (Walk p e q)
+    hit_same : is_hit c p e q ≡ true → found_by i p e q (frame no_word (word_for c p e q)) e.levels ≡ finish i m (Walk p e q)
     unfolding found_by finish by_pages
     hit_same o =
         let w = hit_found o in
@@ -134,7 +134,7 @@ module _ (f : Tables) (m c : List ℕ) (s : Sound f m c) where
       let u : (walked_page m e (page_for e q)).found ≡ (walk m e (page_for e q)).found = rw (paged-walkable e k.2) in
       sym (ap content (u ∙ w.1))
 
-  pub looked-same : (i : ℕ) (x : Checked) → Known f x → finish i m (looked i c x) ≡ finish i m x
+  pub looked-same : (i : ℕ) (x : Check) → Known f x → finish i m (looked i c x) ≡ finish i m x
   unfolding looked
   looked-same i (Kept a) k = refl
   looked-same i (Ready p o) k = refl
@@ -199,14 +199,14 @@ put_sound f m c s i p h q x b r =
 
 -- a walk that passes found a last word
 pass_frame : (i : ℕ) (p : PeNumber) (q : DmaRequest) (s : PageSize) (x : Found) (n : ℕ)
-    → is_pass (reached i p q (landed s q.direction (offset q.address) x) n).answer ≡ true → (a : ByteAddress) × (x ≡ Frame a (content x))
+    → is_pass (reached i p q (landed s q.direction (offset q.address) x) n).answer ≡ true → (a : ByteAddress) × (x ≡ frame a (content x))
 unfolding landed
-pass_frame i p q s (Frame a w) n o = (a, refl)
-pass_frame i p q s (Forbidden a) n o = clash o (unfold last_test outcome_of in refl)
-pass_frame i p q s (Outside a) n o = clash o (unfold last_test outcome_of in refl)
+pass_frame i p q s (Ok x) n o = (x.word, refl)
+pass_frame i p q s (Err (Forbidden a)) n o = clash o (unfold last_test outcome_of in refl)
+pass_frame i p q s (Err (Outside a)) n o = clash o (unfold last_test outcome_of in refl)
 
 module _ (f : Tables) (m c : List ℕ) (s : Sound f m c) (i : ℕ) (p : PeNumber) (e : TranslationEntry) (q : DmaRequest) (known : Known f (Walk p e q)) where
-  passed_frame : is_pass (finish i m (Walk p e q)).answer ≡ true → (a : ByteAddress) × ((walked_page m e (page_for e q)).found ≡ Frame a (content (walked_page m e (page_for e q)).found))
+  passed_frame : is_pass (finish i m (Walk p e q)).answer ≡ true → (a : ByteAddress) × ((walked_page m e (page_for e q)).found ≡ frame a (content (walked_page m e (page_for e q)).found))
   unfolding finish by_pages
   passed_frame o = pass_frame i p q (page_size e) (walked_page m e (page_for e q)).found _ o
 
@@ -227,7 +227,7 @@ module _ (f : Tables) (m c : List ℕ) (s : Sound f m c) (i : ℕ) (p : PeNumber
         table = known-tabled;
         at_place = w.0;
         found = let z : p.0 + 1 - 1 ≡ p.0 = omega arith in
-            rw z (subst (λ (x : TranslationEntry). (walk m x (page_for e q)).found ≡ Frame w.0 (content (walked_page m e (page_for e q)).found)) known.1 (sym walked ∙ w.1));
+            rw z (subst (λ (x : TranslationEntry). (walk m x (page_for e q)).found ≡ frame w.0 (content (walked_page m e (page_for e q)).found)) known.1 (sym walked ∙ w.1));
       }
 
   pub walk_sound : Sound f m (filled i m c (Walk p e q))
@@ -238,7 +238,7 @@ module _ (f : Tables) (m c : List ℕ) (s : Sound f m c) (i : ℕ) (p : PeNumber
       (λ o. rw o (put_sound f m c s (slot_for p e q) p h (page_for e q) (content (walked_page m e (page_for e q)).found) (slot-low p h (page_for e q)) (walk-right o)))
       (λ o. rw o s)
 
-pub filled_sound : (f : Tables) (m c : List ℕ) → Sound f m c → (i : ℕ) (x : Checked) → Known f x → Sound f m (filled i m c (looked i c x))
+pub filled_sound : (f : Tables) (m c : List ℕ) → Sound f m c → (i : ℕ) (x : Check) → Known f x → Sound f m (filled i m c (looked i c x))
 unfolding looked
 filled_sound f m c s i (Kept a) k = unfold filled in s
 filled_sound f m c s i (Ready p o) k = unfold filled in s

@@ -10,7 +10,8 @@ use Rattle.std.proofs.Math.Option.{Option, none, some}
 use Rattle.std.proofs.Math.ListN.{length}
 use Rattle.std.proofs.lemmas.Bool.{eqb-false}
 use Rattle.kinds.specs.Answer.{refuse, is_done}
-use Rattle.kinds.specs.Checked.{Checked, Kept, Ready, Walk, Fences}
+use Rattle.kinds.specs.declared.outcome.Check.{Check}
+use Rattle.kinds.specs.declared.outcome.Check.TheVariants.{Kept, Ready, Walk, Fences}
 use Rattle.kinds.proofs.Tests.{by_cases, and_left, option_cases}
 use Rattle.kinds.specs.declared.answer.Reason.TheVariants.{TableLength}
 use Rattle.kinds.specs.declared.number.PageNumber.{PageNumber}
@@ -69,7 +70,7 @@ module _ (f : Tables) (x : Cached) (q : Request) where
   -- the pass of a walk is that of its answer
   answer-passes : (p : PeNumber) (e : TranslationEntry) (d : DmaRequest) → checked_by (fit f x) f x.bare.live q ≡ Walk p e d
       → is_pass (cached_answer f x (Plain q)) ≡ passes f x p e d
-  answer-passes p e d h = ap (λ (y : Checked). is_pass (finish_of f x y).answer) h
+  answer-passes p e d h = ap (λ (y : Check). is_pass (finish_of f x y).answer) h
 
   request-pass : (p : PeNumber) (e : TranslationEntry) (d : DmaRequest) → checked_by (fit f x) f x.bare.live q ≡ Walk p e d
       → is_pass (cached_answer f x (Plain q)) ≡ true
@@ -78,7 +79,7 @@ module _ (f : Tables) (x : Cached) (q : Request) where
   request-pass p e d h o =
       rw h (filled-pass f.installed x.bare.memory x.cache p e d (walk-fit f x q p e d h) (sym (answer-passes p e d h) ∙ o))
 
-  request-other : (y : Checked) → checked_by (fit f x) f x.bare.live q ≡ y
+  request-other : (y : Check) → checked_by (fit f x) f x.bare.live q ≡ y
       → ((p : PeNumber) (e : TranslationEntry) (d : DmaRequest) → y ≡ Walk p e d → is_pass (finish_of f x y).answer ≡ false)
       → (cached_after f x (Plain q)).cache ≡ x.cache
   unfolding cache_by looked filled
@@ -135,7 +136,7 @@ sweep-slot true d c j =
     (λ o. rw (o, kept d c j o (j * 4) (omega arith), kept d c j o (j * 4 + 1) (omega arith), kept d c j o (j * 4 + 2) (omega arith), kept d c j o (j * 4 + 3) (omega arith)))
 
 module _ (f : Tables) (x : Cached) (j : ℕ) where
-  request-slot : (q : Request) (y : Checked) → checked_by (fit f x) f x.bare.live q ≡ y → slot_at (cached_after f x (Plain q)).cache j ≡ or_kept (fill_at f x j y) (slot_at x.cache j)
+  request-slot : (q : Request) (y : Check) → checked_by (fit f x) f x.bare.live q ≡ y → slot_at (cached_after f x (Plain q)).cache j ≡ or_kept (fill_at f x j y) (slot_at x.cache j)
   request-slot q (Kept a) h = ap (λ (c : List ℕ). slot_at c j) (request-other f x q (Kept a) h (λ p e d z. absurd (let y : ◌≡◌ {A = ℕ} 0 1 = cc in omega arith)))
   request-slot q (Ready p o) h =
       ap (λ (c : List ℕ). slot_at c j) (request-other f x q (Ready p o) h (λ p e d z. absurd (let y : ◌≡◌ {A = ℕ} 0 1 = cc in omega arith)))

@@ -15,14 +15,15 @@
 --     cached_answer, cached_after  what an operation is answered, and what it leaves
 --     cached_machine G f  the machine of these
 -- Assumes nothing.
-use Rattle.std.specs.Prelude.{Bool, true, false, cond, ◌&&◌, List, ℕ, ◌+◌, ◌-◌, ltb, eqb, length}
-use Rattle.kinds.specs.Checked.{Checked, Kept, Ready, Walk, Fences}
+use Rattle.kinds.specs.declared.lookup.WalkError.TheVariants.{Forbidden, Outside}
+use Rattle.kinds.specs.Lookup.{Found, frame}
+use Rattle.std.specs.Prelude.{Bool, true, false, cond, ◌&&◌, List, ℕ, ◌+◌, ◌-◌, ltb, eqb, length, Ok, Err}
+use Rattle.kinds.specs.declared.outcome.Check.{Check}
+use Rattle.kinds.specs.declared.outcome.Check.TheVariants.{Kept, Ready, Walk, Fences}
 use Rattle.kinds.specs.Has.{has}
 use Rattle.kinds.specs.Number.{no_word}
 use Rattle.kinds.specs.declared.answer.Answer.{Answer}
 use Rattle.kinds.specs.declared.answer.Answer.TheVariants.{Pass, Msi, Held, Ones, Drop, Refuse, Done}
-use Rattle.kinds.specs.declared.lookup.Found.{Found}
-use Rattle.kinds.specs.declared.lookup.Found.TheVariants.{Frame, Forbidden, Outside}
 use Rattle.kinds.specs.declared.number.PageNumber.{PageNumber}
 use Rattle.kinds.specs.declared.number.PeNumber.{PeNumber}
 use Rattle.kinds.specs.declared.outcome.Outcome.{Outcome}
@@ -57,13 +58,13 @@ is_hit c p e q = holds c (slot_for p e q) p (half q.address) (page_for e q) && a
 unfoldable pub found_by : (installed : ℕ) → PeNumber → TranslationEntry → DmaRequest → Found → (words : ℕ) → Outcome
 found_by i p e q x n = reached i p q (landed (page_size e) q.direction (offset q.address) x) n
 
-unfoldable pub looked : (installed : ℕ) → (cache : List ℕ) → Checked → Checked
+unfoldable pub looked : (installed : ℕ) → (cache : List ℕ) → Check → Check
 looked i c (Kept a) = Kept a
 looked i c (Ready p o) = Ready p o
-looked i c (Walk p e q) = cond (is_hit c p e q) (Ready p (found_by i p e q (Frame no_word (word_for c p e q)) e.levels)) (Walk p e q)
+looked i c (Walk p e q) = cond (is_hit c p e q) (Ready p (found_by i p e q (frame no_word (word_for c p e q)) e.levels)) (Walk p e q)
 looked i c (Fences b) = Fences b
 
-abbrev pub cached_finish : (installed : ℕ) → (memory cache : List ℕ) → Checked → Outcome
+abbrev pub cached_finish : (installed : ℕ) → (memory cache : List ℕ) → Check → Outcome
 cached_finish i m c x = finish i m (looked i c x)
 
 -- ---- fill
@@ -79,11 +80,11 @@ is_pass Done = false
 
 -- no pass is by a walk that found none
 abbrev pub content : Found → ℕ
-content (Frame a w) = w
-content (Forbidden a) = 0
-content (Outside a) = 0
+content (Ok x) = x.content
+content (Err (Forbidden a)) = 0
+content (Err (Outside a)) = 0
 
-unfoldable pub filled : (installed : ℕ) → (memory cache : List ℕ) → Checked → List ℕ
+unfoldable pub filled : (installed : ℕ) → (memory cache : List ℕ) → Check → List ℕ
 filled i m c (Kept a) = c
 filled i m c (Ready p o) = c
 filled i m c (Walk p e q) =
@@ -118,7 +119,7 @@ pub record Cached : Type 0 where
 abbrev pub fit : Tables → Cached → Bool
 fit f x = eqb (length x.cache) cache_words && good f x.bare
 
-abbrev pub finish_of : Tables → Cached → Checked → Outcome
+abbrev pub finish_of : Tables → Cached → Check → Outcome
 finish_of f x = cached_finish f.installed x.bare.memory x.cache
 
 unfoldable pub cache_by : (ok : Bool) → Tables → Cached → Operation → List ℕ

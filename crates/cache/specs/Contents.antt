@@ -10,7 +10,8 @@
 use Rattle.std.specs.Prelude.{◌≡◌, Bool, true, false, cond, ◌&&◌, List, [], ◌∷◌, ℕ, ◌+◌, eqb}
 use Rattle.std.proofs.Math.Option.{Option, none, some}
 use Rattle.kinds.specs.Answer.{is_done}
-use Rattle.kinds.specs.Checked.{Checked, Kept, Ready, Walk, Fences}
+use Rattle.kinds.specs.declared.outcome.Check.{Check}
+use Rattle.kinds.specs.declared.outcome.Check.TheVariants.{Kept, Ready, Walk, Fences}
 use Rattle.kinds.specs.declared.answer.Answer.TheVariants.{Done}
 use Rattle.kinds.specs.declared.number.PeNumber.{PeNumber}
 use Rattle.kinds.specs.declared.record.TranslationEntry.{TranslationEntry}
@@ -37,7 +38,7 @@ word_used m c p e q = cond (is_hit c p e q) (word_for c p e q) (content (walked_
 abbrev pub passes : Tables → Cached → PeNumber → TranslationEntry → DmaRequest → Bool
 passes f x p e q = is_pass (finish_of f x (Walk p e q)).answer
 
-abbrev pub fill_at : Tables → Cached → (slot : ℕ) → Checked → Option (List ℕ)
+abbrev pub fill_at : Tables → Cached → (slot : ℕ) → Check → Option (List ℕ)
 fill_at f x j (Kept a) = none
 fill_at f x j (Ready p o) = none
 fill_at f x j (Walk p e q) =

@@ -2,7 +2,8 @@
 --     stuck               where reason 1 holds, the length of the cache included, nothing changes; answer-one: every answer is 1
 --     simulation, cached_isolation    THE THEOREMS
 -- Assumes nothing.
-use Rattle.std.specs.Prelude.{◌≡◌, Bool, true, false, List, ℕ, eqb, length}
+use Rattle.kinds.specs.Lookup.{Owner}
+use Rattle.std.specs.Prelude.{◌≡◌, Bool, true, false, List, ℕ, eqb, length, Ok, Err}
 use Rattle.std.proofs.Math.Path.{refl, ap}
 use Rattle.std.proofs.Common.{sym, ap₂, subst, subst₂, ◌∙◌, eqb-true, ne_eqb}
 use Rattle.std.proofs.Math.Option.{Option, none}
@@ -12,8 +13,6 @@ use Rattle.kinds.proofs.Tests.{by_cases, clash, and_left}
 use Rattle.kinds.specs.Words.{at}
 use Rattle.kinds.specs.declared.answer.Answer.{Answer}
 use Rattle.kinds.specs.declared.answer.Reason.TheVariants.{TableLength}
-use Rattle.kinds.specs.declared.lookup.Owner.{Owner}
-use Rattle.kinds.specs.declared.lookup.Owner.TheVariants.{Of, Nobody}
 use Rattle.kinds.specs.declared.number.PeNumber.{PeNumber}
 use Rattle.kinds.specs.declared.outcome.Effect.TheVariants.{Keep}
 use Rattle.kinds.specs.declared.record.Sizes.{Sizes}
@@ -42,8 +41,8 @@ use Rattle.cache_claims.specs.Demand.{lent, begun, left, moments, Simulation, Ca
 
 kept : (f : Tables) (o : Owner) (s : Live) → act_by f o Keep s ≡ s
 unfolding act_by act whole
-kept f (Of p) s = refl
-kept f (Nobody r) s = refl
+kept f (Ok p) s = refl
+kept f (Err r) s = refl
 
 module _ (f : Tables) (x : Cached) where
   answer_off : (q : Operation) → answer_by false (finish_of f x) f x.bare q ≡ refuse TableLength

@@ -1,16 +1,15 @@
 -- Theorems of specs/Release.antt.
 --     cached_released     THE THEOREM
 -- Assumes nothing.
-use Rattle.std.specs.Prelude.{◌≡◌, Bool, true, false, List, [], ◌∷◌, ◌++◌, ℕ, ◌*◌, ◌<◌, ◌≤◌, eqb, length}
+use Rattle.kinds.specs.Lookup.{Owner}
+use Rattle.std.specs.Prelude.{◌≡◌, Bool, true, false, List, [], ◌∷◌, ◌++◌, ℕ, ◌*◌, ◌<◌, ◌≤◌, eqb, length, Ok}
 use Rattle.std.proofs.Math.Path.{refl}
 use Rattle.std.proofs.Common.{sym, ap, ◌∙◌, eq-eqb}
 use Rattle.std.proofs.Math.Option.{none}
-use Rattle.kinds.specs.Checked.{Checked}
+use Rattle.kinds.specs.declared.outcome.Check.{Check}
 use Rattle.kinds.specs.Tests.{given}
 use Rattle.kinds.proofs.Tests.{by_cases, clash, and_right}
 use Rattle.kinds.specs.Words.{at}
-use Rattle.kinds.specs.declared.lookup.Owner.{Owner}
-use Rattle.kinds.specs.declared.lookup.Owner.TheVariants.{Of}
 use Rattle.kinds.specs.declared.number.PeNumber.{PeNumber}
 use Rattle.kinds.specs.declared.outcome.Effect.{Effect}
 use Rattle.kinds.specs.declared.outcome.Effect.TheVariants.{Keep}
@@ -126,14 +125,14 @@ checked-same f n k s t r true q o g =
     unfold checked in rw (g refl, z) at (checked_agrees w r n q o)
 
 thaw-answer : (f : Tables) (x : Cached) (k : PeNumber) → Same (only k) f.sizes x.bare.live (unfrozen f.sizes.pes x.bare.live)
-    → (q : Request) → owner f x.bare.live q ≡ Of k → cached_answer f x (Plain q) ≡ cached_answer f (thaw f x) (Plain q)
+    → (q : Request) → owner f x.bare.live q ≡ Ok k → cached_answer f x (Plain q) ≡ cached_answer f (thaw f x) (Plain q)
 thaw-answer f x k r q o =
     let n = length x.bare.memory in
     let s = x.bare.live in
     let t = unfrozen f.sizes.pes s in
     let mine : belongs (only k) f s q ≡ true = ap (owned (only k)) o ∙ eq-eqb k.0 k.0 refl in
     let same : fit f x ≡ fit f (thaw f x) = rw (sized_agrees (alike_refl f) r n) in
-    rw (← same) (ap (λ (c : Checked). (finish_of f x c).answer) (checked-same f n k s t r (fit f x) q mine (λ b. and_right (eqb (length x.cache) cache_words) (good f x.bare) b)))
+    rw (← same) (ap (λ (c : Check). (finish_of f x c).answer) (checked-same f n k s t r (fit f x) q mine (λ b. and_right (eqb (length x.cache) cache_words) (good f x.bare) b)))
 
 pub cached_released : CachedReleased
 cached_released = record {

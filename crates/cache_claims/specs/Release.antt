@@ -4,10 +4,9 @@
 --     thaw f x            x with 0 in all words of the PEs: the fence word, interrupts, memory and cache are as they are
 --     CachedReleased      THE CLAIM, as a type that a promise can cite
 -- The theorems are in proofs/Release.antt. Assumes nothing.
-use Rattle.std.specs.Prelude.{◌≡◌, true, List, [], ◌<◌}
+use Rattle.std.specs.Prelude.{◌≡◌, true, List, [], ◌<◌, Ok, Err}
 use Rattle.kinds.specs.Words.{at}
 use Rattle.kinds.specs.declared.answer.Reason.TheVariants.{BadFirmware}
-use Rattle.kinds.specs.declared.lookup.Owner.TheVariants.{Of, Nobody}
 use Rattle.kinds.specs.declared.number.PeNumber.{PeNumber}
 use Rattle.kinds.specs.declared.outcome.Effect.TheVariants.{Keep}
 use Rattle.kinds.specs.declared.request.Operation.{Operation}
@@ -23,8 +22,8 @@ use Rattle.cache.specs.Cache.{Cached, fit, finish_of, cached_answer, cached_afte
 
 abbrev pub cached_step : Tables → Cached → Operation → Step
 cached_step f x (Plain q) = record { owner = owner f x.bare.live q; effect = (outcome_by (fit f x) (finish_of f x) f x.bare.live q).effect }
-cached_step f x (Edit k v) = record { owner = Nobody BadFirmware; effect = Keep }
-cached_step f x (Invalidate s) = record { owner = Nobody BadFirmware; effect = Keep }
+cached_step f x (Edit k v) = record { owner = Err BadFirmware; effect = Keep }
+cached_step f x (Invalidate s) = record { owner = Err BadFirmware; effect = Keep }
 
 abbrev pub cached_history : Tables → Cached → List Operation → List Step
 cached_history f x l = steps (cached_after f) (cached_step f) [] x l
@@ -48,5 +47,5 @@ pub record CachedReleased : Type 0 where
       -- after l, all three clears of it, and no freeze of it since the first of them
       → cleared f k (cached_history f (end (cached_after f) x l) r) ≡ true
       -- its next request is answered as if no PE had been frozen, over the other tables, the fence, memory and cache as they are then
-      → (q : Request) → owner f (both f x l r).bare.live q ≡ Of k
+      → (q : Request) → owner f (both f x l r).bare.live q ≡ Ok k
       → cached_answer f (both f x l r) (Plain q) ≡ cached_answer f (thaw f (both f x l r)) (Plain q)

@@ -1,13 +1,11 @@
 -- What the functions of `cache_dma` are proved from, a law to a `return`. Assumes nothing.
+use Rattle.kinds.specs.Lookup.{Found, Translated, frame}
 use mathlib.Core.Path.{◌≡◌, ap, ◌∙◌}
 use mathlib.Core.Bool.{Bool, true, false}
 use mathlib.Core.List.{List}
 use Prim.Native.Nat.{ℕ}
-use Rattle.kinds.specs.Checked.{Walk}
+use Rattle.kinds.specs.declared.outcome.Check.TheVariants.{Walk}
 use Rattle.kinds.specs.Number.{page_number, no_word}
-use Rattle.kinds.specs.declared.lookup.Found.{Found}
-use Rattle.kinds.specs.declared.lookup.Found.TheVariants.{Frame}
-use Rattle.kinds.specs.declared.lookup.Translated.{Translated}
 use Rattle.kinds.specs.declared.number.ByteAddress.{ByteAddress}
 use Rattle.kinds.specs.declared.number.PageNumber.{PageNumber}
 use Rattle.kinds.specs.declared.number.PageSize.{PageSize}
@@ -64,9 +62,9 @@ module _ (i : ℕ) (c : List ℕ) (p : PeNumber) (e : TranslationEntry) (q : Dma
     unfolding quick_for is_hit
     not_allowed z = rw (← held-is, full, ← word-is, ← may, z)
 
-    pub a_hit : ok ≡ true → {x : Outcome} → x ≡ reached i p q (landed s q.direction o (Frame no_word w)) e.levels → Hit x ≡ quick_for i c p e q
+    pub a_hit : ok ≡ true → {x : Outcome} → x ≡ reached i p q (landed s q.direction o (frame no_word w)) e.levels → Hit x ≡ quick_for i c p e q
     unfolding quick_for is_hit
-    a_hit z comes = ap Hit (comes_by e q size cut i p (Frame no_word w) e.levels comes) ∙ rw (← held-is, full, ← word-is, ← may, z)
+    a_hit z comes = ap Hit (comes_by e q size cut i p (frame no_word w) e.levels comes) ∙ rw (← held-is, full, ← word-is, ← may, z)
 
 -- `walk_and_fill`
 module _ (i : ℕ) (m c : List ℕ) (p : PeNumber) (e : TranslationEntry) (q : DmaRequest) {s : PageSize} {o : ByteAddress} {page : PageNumber} {w : Walked} {r : Outcome}

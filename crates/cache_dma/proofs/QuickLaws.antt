@@ -2,7 +2,7 @@
 --     looked_quick        it is what `looked` puts in the place of the walk
 -- Assumes nothing.
 use Rattle.std.specs.Prelude.{◌≡◌, List, ℕ}
-use Rattle.kinds.specs.Checked.{Walk}
+use Rattle.kinds.specs.declared.outcome.Check.TheVariants.{Walk}
 use Rattle.kinds.proofs.Tests.{by_cases}
 use Rattle.kinds.specs.declared.number.PeNumber.{PeNumber}
 use Rattle.kinds.specs.declared.record.TranslationEntry.{TranslationEntry}

@@ -3,7 +3,7 @@
 --     either_filled b i m c x  the cache after what is left of a check x: with a cache (b) it may be filled
 -- Assumes nothing.
 use Rattle.std.specs.Prelude.{◌≡◌, Bool, true, false, List, ℕ}
-use Rattle.kinds.specs.Checked.{Checked}
+use Rattle.kinds.specs.declared.outcome.Check.{Check}
 use Rattle.kinds.specs.declared.outcome.Outcome.{Outcome}
 use Rattle.cache.specs.Cache.{filled}
 
@@ -11,6 +11,6 @@ pub record Went (r : Outcome) (k : List ℕ) (o : Outcome) (c : List ℕ) : Type
   pub comes : r ≡ o
   pub leaves : k ≡ c
 
-abbrev pub either_filled : (cached : Bool) → (installed : ℕ) → (memory cache : List ℕ) → Checked → List ℕ
+abbrev pub either_filled : (cached : Bool) → (installed : ℕ) → (memory cache : List ℕ) → Check → List ℕ
 either_filled true i m c x = filled i m c x
 either_filled false i m c x = c

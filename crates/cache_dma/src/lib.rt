@@ -3,7 +3,7 @@
 #![tactic(auto)]
 
 ghost use Rattle.std.specs.Prelude.{◌≡◌};
-ghost use Rattle.kinds.specs.Checked.{Walk};
+ghost use Rattle.kinds.specs.declared.outcome.Check.TheVariants.{Walk};
 ghost use Rattle.profile.specs.Step.{reached, finish};
 ghost use Rattle.profile.specs.Walk.{landed};
 ghost use Rattle.cache.specs.Cache.{is_pass, content};

@@ -6,7 +6,7 @@ use Rattle.std.specs.Prelude.{◌≡◌, true, List, [], ℕ, ltb, length}
 use Rattle.std.proofs.Math.Path.{ap}
 use Rattle.std.proofs.Common.{◌∙◌}
 use Rattle.std.proofs.Math.Bool.{cond}
-use Rattle.kinds.specs.Checked.{Checked}
+use Rattle.kinds.specs.declared.outcome.Check.{Check}
 use Rattle.kinds.specs.declared.answer.Answer.{Answer}
 use Rattle.kinds.specs.declared.outcome.Outcome.{Outcome}
 use Rattle.kinds.specs.declared.request.Operation.TheVariants.{Edit, Invalidate}
@@ -28,7 +28,7 @@ module _ (f : Tables) (x : Cached) (k v : ℕ) {r : Answer} {m' c' : List ℕ}
       did.cache
       ∙ ap (λ (d : Test). cond (ltb k (length x.bare.memory)) (sweep d x.cache) x.cache) (through-is f x.bare.memory k)
 
-  module _ (fin : Checked → Outcome) where
+  module _ (fin : Check → Outcome) where
     pub edit-answer : r ≡ answer_by true fin f x.bare (Edit k v)
     edit-answer = did.answer
 
@@ -47,5 +47,5 @@ module _ (f : Tables) (x : Cached) (s : Scope) {r : Answer} {c' : List ℕ}
   invalidate-cache =
       did.cache ∙ ap (λ (d : Test). cond (nameable f.sizes.pes s) (sweep d x.cache) x.cache) (names-is f s)
 
-  pub invalidate-answer : (fin : Checked → Outcome) → r ≡ answer_by true fin f x.bare (Invalidate s)
+  pub invalidate-answer : (fin : Check → Outcome) → r ≡ answer_by true fin f x.bare (Invalidate s)
   invalidate-answer fin = did.answer

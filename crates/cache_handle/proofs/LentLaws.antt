@@ -5,12 +5,13 @@
 --     kept_fill           a request that is answered by the checks alone fills no slot
 --     either-answers, either-leaves  what the checks and their finish come to is what the bridge with a cache, or the one without, answers and leaves
 -- Assumes nothing.
+use Rattle.kinds.specs.Lookup.{Owner}
 use Rattle.std.specs.Prelude.{◌≡◌, Bool, true, false, List, ℕ, length}
 use Rattle.std.proofs.Math.Path.{refl}
 use Rattle.std.proofs.Common.{sym, ap, ◌∙◌}
-use Rattle.kinds.specs.Checked.{Checked, Kept, Ready, Walk, Fences, shown}
+use Rattle.kinds.specs.declared.outcome.Check.{Check}
+use Rattle.kinds.specs.declared.outcome.Check.TheVariants.{Kept, Ready, Walk, Fences}
 use Rattle.kinds.proofs.Tests.{by_cases, clash}
-use Rattle.kinds.specs.declared.lookup.Owner.{Owner}
 use Rattle.kinds.specs.declared.number.PeNumber.{PeNumber}
 use Rattle.kinds.specs.declared.record.TranslationEntry.{TranslationEntry}
 use Rattle.kinds.specs.declared.request.DmaRequest.{DmaRequest}
@@ -33,37 +34,34 @@ use Rattle.cache_handle.specs.Lent.{either_sized, either_looked, quick_at, finis
 
 -- a walk, by what the cache says of it
 module _ (b : Bool) (i : ℕ) (m c : List ℕ) (p : PeNumber) (e : TranslationEntry) (q : DmaRequest) where
-  hit_finish : (u : Quick) → finished_by i m (shown (Walk p e q)) u ≡ finish i m (in_place u p (Walk p e q))
-  unfolding shown
+  hit_finish : (u : Quick) → finished_by i m ((Walk p e q)) u ≡ finish i m (in_place u p (Walk p e q))
   hit_finish (Hit o) = unfold finish in refl
   hit_finish Miss = refl
 
-  hit_fill : (u : Quick) → filled_by true i m c (shown (Walk p e q)) u ≡ filled i m c (in_place u p (Walk p e q))
-  unfolding shown
+  hit_fill : (u : Quick) → filled_by true i m c ((Walk p e q)) u ≡ filled i m c (in_place u p (Walk p e q))
   hit_fill (Hit o) = unfold filled in refl
   hit_fill Miss = refl
 
-pub finished_by_lem : (b : Bool) (i : ℕ) (m c : List ℕ) (x : Checked) → finished_by i m (shown x) (quick_at b i c (shown x)) ≡ finish i m (either_looked b i c x)
-unfolding shown looked
+pub finished_by_lem : (b : Bool) (i : ℕ) (m c : List ℕ) (x : Check) → finished_by i m (x) (quick_at b i c (x)) ≡ finish i m (either_looked b i c x)
+unfolding looked
 finished_by_lem true i m c (Kept a) = unfold finish in refl
 finished_by_lem true i m c (Ready p o) = unfold finish in refl
 finished_by_lem true i m c (Walk p e q) = hit_finish true i m c p e q (quick_for i c p e q) ∙ ap (finish i m) (looked_quick i c p e q)
 finished_by_lem true i m c (Fences b) = unfold finish in refl
 finished_by_lem false i m c x = finished-is i m x
 
-either-keeps : (b : Bool) (i : ℕ) (m c : List ℕ) (x : Checked) → filled i m c x ≡ c → either_filled b i m c x ≡ c
+either-keeps : (b : Bool) (i : ℕ) (m c : List ℕ) (x : Check) → filled i m c x ≡ c → either_filled b i m c x ≡ c
 either-keeps true i m c x e = e
 either-keeps false i m c x e = refl
 
-uncached_fill : (i : ℕ) (m c : List ℕ) (x : Checked) → filled_by false i m c (shown x) Miss ≡ c
-unfolding shown
+uncached_fill : (i : ℕ) (m c : List ℕ) (x : Check) → filled_by false i m c (x) Miss ≡ c
 uncached_fill i m c (Kept a) = refl
 uncached_fill i m c (Ready p o) = refl
 uncached_fill i m c (Walk p e q) = refl
 uncached_fill i m c (Fences b) = refl
 
-pub filled_by_lem : (b : Bool) (i : ℕ) (m c : List ℕ) (x : Checked) → filled_by b i m c (shown x) (quick_at b i c (shown x)) ≡ either_filled b i m c (either_looked b i c x)
-unfolding shown looked
+pub filled_by_lem : (b : Bool) (i : ℕ) (m c : List ℕ) (x : Check) → filled_by b i m c (x) (quick_at b i c (x)) ≡ either_filled b i m c (either_looked b i c x)
+unfolding looked
 filled_by_lem true i m c (Kept a) = unfold filled in refl
 filled_by_lem true i m c (Ready p o) = unfold filled in refl
 filled_by_lem true i m c (Walk p e q) = hit_fill true i m c p e q (quick_for i c p e q) ∙ ap (filled i m c) (looked_quick i c p e q)
@@ -71,50 +69,49 @@ filled_by_lem true i m c (Fences b) = unfold filled in refl
 filled_by_lem false i m c x = uncached_fill i m c x
 
 -- the PE of a check, and whether it is answered, are the same after the cache was looked at
-in_place_pe : (u : Quick) (p : PeNumber) (e : TranslationEntry) (q : DmaRequest) → (shown (in_place u p (Walk p e q))).pe ≡ p
-unfolding shown
+in_place_pe : (u : Quick) (p : PeNumber) (e : TranslationEntry) (q : DmaRequest) → ((in_place u p (Walk p e q))).pe ≡ p
 in_place_pe (Hit o) p e q = refl
 in_place_pe Miss p e q = refl
 
-pub looked-pe : (b : Bool) (i : ℕ) (c : List ℕ) (x : Checked) → (shown x).pe ≡ (shown (either_looked b i c x)).pe
-unfolding shown looked
+pub looked-pe : (b : Bool) (i : ℕ) (c : List ℕ) (x : Check) → (x).pe ≡ ((either_looked b i c x)).pe
+unfolding looked
 looked-pe true i c (Kept a) = refl
 looked-pe true i c (Ready p o) = refl
-looked-pe true i c (Walk p e q) = sym (in_place_pe (quick_for i c p e q) p e q) ∙ ap (λ (y : Checked). (shown y).pe) (looked_quick i c p e q)
+looked-pe true i c (Walk p e q) = sym (in_place_pe (quick_for i c p e q) p e q) ∙ ap (λ (y : Check). (y).pe) (looked_quick i c p e q)
 looked-pe true i c (Fences b) = refl
 looked-pe false i c x = refl
 
-pub looked-kept : (b : Bool) (i : ℕ) (c : List ℕ) (x : Checked) → (shown x).kept ≡ true → either_looked b i c x ≡ x
-unfolding shown looked
+pub looked-kept : (b : Bool) (i : ℕ) (c : List ℕ) (x : Check) → (x).kept ≡ true → either_looked b i c x ≡ x
+unfolding looked
 looked-kept true i c (Kept a) h = refl
 looked-kept true i c (Ready p o) h = clash h refl
 looked-kept true i c (Walk p e q) h = clash h refl
 looked-kept true i c (Fences b) h = clash h refl
 looked-kept false i c x h = refl
 
-with_cache : (i : ℕ) (c : List ℕ) (o : Owner) (x : Checked) → Placed o x → Placed o (looked i c x)
+with_cache : (i : ℕ) (c : List ℕ) (o : Owner) (x : Check) → Placed o x → Placed o (looked i c x)
 unfolding looked
 with_cache i c o (Kept a) h = tt
 with_cache i c o (Ready p x) h = h
 with_cache i c o (Walk p e q) h = by_cases (is_hit c p e q) (λ z. rw z h) (λ z. rw z h)
 with_cache i c o (Fences b) h = tt
 
-pub looked-placed : (b : Bool) (i : ℕ) (c : List ℕ) (o : Owner) (x : Checked) → Placed o x → Placed o (either_looked b i c x)
+pub looked-placed : (b : Bool) (i : ℕ) (c : List ℕ) (o : Owner) (x : Check) → Placed o x → Placed o (either_looked b i c x)
 looked-placed true i c o x h = with_cache i c o x h
 looked-placed false i c o x h = h
 
-kept_full : (i : ℕ) (m c : List ℕ) (x : Checked) → (shown x).kept ≡ true → filled i m c x ≡ c
-unfolding shown filled
+kept_full : (i : ℕ) (m c : List ℕ) (x : Check) → (x).kept ≡ true → filled i m c x ≡ c
+unfolding filled
 kept_full i m c (Kept a) h = refl
 kept_full i m c (Ready p o) h = clash h refl
 kept_full i m c (Walk p e q) h = clash h refl
 kept_full i m c (Fences b) h = clash h refl
 
-pub kept_fill : (b : Bool) (i : ℕ) (m c : List ℕ) (x : Checked) → (shown x).kept ≡ true → either_filled b i m c x ≡ c
+pub kept_fill : (b : Bool) (i : ℕ) (m c : List ℕ) (x : Check) → (x).kept ≡ true → either_filled b i m c x ≡ c
 kept_fill b i m c x h = either-keeps b i m c x (kept_full i m c x h)
 
 -- the checks of request q, with a cache or without one
-abbrev pub either_checked : (cached : Bool) → Tables → Cached → Request → Checked
+abbrev pub either_checked : (cached : Bool) → Tables → Cached → Request → Check
 either_checked b f x q =
     either_looked b f.installed x.cache (checked_by (either_sized b (length x.cache) (good f x.bare)) f x.bare.live q)
 

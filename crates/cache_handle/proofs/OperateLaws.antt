@@ -11,7 +11,7 @@ use lib.ListN.{length}
 use borrow.Author.Tests.{eq-eqb, ne_eqb}
 use Rattle.kinds.specs.Answer.{numbered, refuse}
 use Rattle.kinds.proofs.Tests.{clash, not_true, not_false, and_right}
-use Rattle.kinds.specs.Checked.{Checked, Kept, Walk, shown}
+use Rattle.kinds.specs.declared.outcome.Check.TheVariants.{Kept, Walk}
 use Rattle.kinds.specs.declared.answer.Answer.{Answer}
 use Rattle.kinds.specs.declared.answer.Reason.TheVariants.{TableLength, BadRequest}
 use Rattle.kinds.specs.declared.outcome.Check.{Check}
@@ -67,7 +67,7 @@ of_length b n u = rw u
 
 -- `check`
 module _ (b : Bool) (z : Sizes) (i : ℕ) (l : Lengths) (r e w g t n c : List ℕ) (q : Request) {short : Bool} (asks : short ≡ (b && not (eqb (length c) cache_words))) where
-  abbrev x : (ok : Bool) → Checked
+  abbrev x : (ok : Bool) → Check
   x ok = checked z i r e w g (live t n) ok q
 
   -- a cache that is not short has its length
@@ -75,8 +75,8 @@ module _ (b : Bool) (z : Sizes) (i : ℕ) (l : Lengths) (r e w g t n c : List �
   fits_all true o = rw (not_false (eqb (length c) cache_words) o)
   fits_all false o = refl
 
-  pub checks : short ≡ false → {k : Check} → k ≡ shown (x (sized z l)) → {u : Quick} → u ≡ quick_at b i c k
-      → ◌≡◌ {A = Looked} (record { check = k; quick = u }) (looked_up b i c (shown (x (either_sized b (length c) (sized z l)))))
+  pub checks : short ≡ false → {k : Check} → k ≡ (x (sized z l)) → {u : Quick} → u ≡ quick_at b i c k
+      → ◌≡◌ {A = Looked} (record { check = k; quick = u }) (looked_up b i c ((x (either_sized b (length c) (sized z l)))))
   checks o h f = rw (f, h, fits_all b (sym asks ∙ o))
 
   shorted : (u : Bool) → (u && not (eqb (length c) cache_words)) ≡ true → Kept (refuse TableLength) ≡ x (either_sized u (length c) (sized z l))
@@ -84,14 +84,13 @@ module _ (b : Bool) (z : Sizes) (i : ℕ) (l : Lengths) (r e w g t n c : List �
   shorted true o = rw (not_true (eqb (length c) cache_words) o)
   shorted false o = clash o refl
 
-  no_look : (u : Bool) → Miss ≡ quick_at u i c (shown (Kept (refuse TableLength)))
-  unfolding shown
+  no_look : (u : Bool) → Miss ≡ quick_at u i c ((Kept (refuse TableLength)))
   no_look true = refl
   no_look false = refl
 
-  pub too_short : short ≡ true → {k : Check} → k ≡ shown (Kept (refuse TableLength))
-      → ◌≡◌ {A = Looked} (record { check = k; quick = Miss }) (looked_up b i c (shown (x (either_sized b (length c) (sized z l)))))
-  too_short o f = rw (f, ← shorted b (sym asks ∙ o)) (ap (λ (u : Quick). record { check = shown (Kept (refuse TableLength)); quick = u }) (no_look b))
+  pub too_short : short ≡ true → {k : Check} → k ≡ (Kept (refuse TableLength))
+      → ◌≡◌ {A = Looked} (record { check = k; quick = Miss }) (looked_up b i c ((x (either_sized b (length c) (sized z l)))))
+  too_short o f = rw (f, ← shorted b (sym asks ∙ o)) (ap (λ (u : Quick). record { check = (Kept (refuse TableLength)); quick = u }) (no_look b))
 
 -- `finish`
 module _ (b : Bool) (i : ℕ) (m c : List ℕ) (k : Check) {u : Quick} where
@@ -119,19 +118,19 @@ operated f x q says goes = record {
 
 -- `serve`
 module _ (b : Bool) (f : Tables) (m t n c : List ℕ) (q : Request) {l : Lengths} {k : Looked} (measured : l ≡ lengths f (length m) (live t n))
-    (is-checked : k ≡ looked_up b f.installed c (shown (checked f.sizes f.installed f.requesters f.entries f.windows f.segments (live t n)
+    (is-checked : k ≡ looked_up b f.installed c ((checked f.sizes f.installed f.requesters f.entries f.windows f.segments (live t n)
     (either_sized b (length c) (sized f.sizes l)) q))) where
   abbrev z : Cached
   z = lent m t n c
 
   -- the checks, and what stands in their place after the cache was looked at
-  abbrev first : Checked
+  abbrev first : Check
   first = checked_by (either_sized b (length c) (good f z.bare)) f (live t n) q
 
-  abbrev y : Checked
+  abbrev y : Check
   y = either_checked b f z q
 
-  is : k ≡ looked_up b f.installed c (shown first)
+  is : k ≡ looked_up b f.installed c (first)
   is = is-checked ∙ rw measured
 
   -- what is left, and the cache then
@@ -144,9 +143,9 @@ module _ (b : Bool) (f : Tables) (m t n c : List ℕ) (q : Request) {l : Lengths
 
   pub served-kept : k.check.kept ≡ true → Served b f z q k.check.outcome.answer z
   served-kept h =
-      let kept-is : (shown first).kept ≡ true = rw is at h in
+      let kept-is : (first).kept ≡ true = rw is at h in
       let same : y ≡ first = looked-kept b f.installed c first kept-is in
-      let kept-y : (shown y).kept ≡ true = rw same kept-is in
+      let kept-y : (y).kept ≡ true = rw same kept-is in
       let said : k.check.outcome ≡ finish f.installed m y = ap (λ (u : Looked). u.check.outcome) is ∙ rw same (sym (kept_out f.installed m first kept-is)) in
       let quiet : (finish f.installed m y).effect ≡ Keep = rw (kept_out f.installed m y kept-y) (kept-still y kept-y) in
       record {
@@ -161,7 +160,7 @@ module _ (b : Bool) (f : Tables) (m t n c : List ℕ) (q : Request) {l : Lengths
     filling : c' ≡ either_filled b f.installed m c y
     filling = ends.leaves ∙ rw is (filled_by_lem b f.installed m c first)
 
-    at-pe : k.check.pe ≡ (shown y).pe
+    at-pe : k.check.pe ≡ (y).pe
     at-pe = ap (λ (u : Looked). u.check.pe) is ∙ looked-pe b f.installed c first
 
     at-owner : act f.sizes.pes f.peers k.check.pe o.effect (live t n) ≡ act_by f (owner f (live t n) q) (finish f.installed m y).effect (live t n)

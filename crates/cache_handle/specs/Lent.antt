@@ -6,7 +6,7 @@
 --     finished_by i m k q  the outcome by the check k and what the cache says; filled_by b i m c k q: the cache after that
 -- Assumes nothing.
 use Rattle.std.specs.Prelude.{Bool, true, false, cond, ◌&&◌, List, ℕ, eqb}
-use Rattle.kinds.specs.Checked.{Checked, Walk}
+use Rattle.kinds.specs.declared.outcome.Check.TheVariants.{Walk}
 use Rattle.kinds.specs.declared.outcome.Check.{Check}
 use Rattle.kinds.specs.declared.outcome.Outcome.{Outcome}
 use Rattle.tables.specs.Tables.{live}
@@ -26,7 +26,7 @@ abbrev pub either_sized : (cached : Bool) → (words : ℕ) → Bool → Bool
 either_sized true n ok = eqb n cache_words && ok
 either_sized false n ok = ok
 
-abbrev pub either_looked : (cached : Bool) → (installed : ℕ) → (cache : List ℕ) → Checked → Checked
+abbrev pub either_looked : (cached : Bool) → (installed : ℕ) → (cache : List ℕ) → Check → Check
 either_looked true i c x = looked i c x
 either_looked false i c x = x
 

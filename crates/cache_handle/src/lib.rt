@@ -3,7 +3,6 @@
 #![tactic(auto)]
 
 ghost use Rattle.std.specs.Prelude.{◌≡◌, not, ◌&&◌, eqb, length};
-ghost use Rattle.kinds.specs.Checked.{shown};
 ghost use Rattle.kinds.specs.declared.request.Operation.TheVariants.{Plain, Edit, Invalidate};
 ghost use Rattle.kinds.specs.declared.request.Request.TheVariants.{Unnamed};
 ghost use Rattle.profile.specs.Step.{checked};
@@ -34,7 +33,7 @@ const CACHE_WORDS: usize = limits::CACHE_WORDS as usize;
 
 // Not reason 1: every number and length is on the table of 01, and the cache has its length.
 fn fits(sizes: Sizes, lengths: Lengths, cache: &[u64]) -> bool
-    ensures { result ≡ (eqb (length cache.now) cache_words && sized sizes lengths) }
+    ensures { result ≡ eqb (length cache.now) cache_words && sized sizes lengths }
 {
     if cache.len() == CACHE_WORDS {
         return sizes::sized(sizes, lengths);
@@ -66,7 +65,7 @@ fn look_at(cached: bool, installed: u64, cache: &[u64], check: Check) -> Quick
 
 // Whether a cache has another length than its own.
 fn is_misfit(cached: bool, cache: &[u64]) -> bool
-    ensures { result ≡ (cached && not (eqb (length cache.now) cache_words)) }
+    ensures { result ≡ cached && not (eqb (length cache.now) cache_words) }
 {
     if cached {
         return cache.len() != CACHE_WORDS;
@@ -89,7 +88,7 @@ pub fn check(
     cache: &[u64],
     asked: Request,
 ) -> Looked
-    ensures { result ≡ looked_up cached installed cache.now (shown (checked sizes installed requesters.now entries.now windows.now segments.now (live state.now interrupts.now) (either_sized cached (length cache.now) (sized sizes lengths)) asked)) }
+    ensures { result ≡ looked_up cached installed cache.now ((checked sizes installed requesters.now entries.now windows.now segments.now (live state.now interrupts.now) (either_sized cached (length cache.now) (sized sizes lengths)) asked)) }
 {
     if is_misfit(cached, cache) {
         return Looked {

@@ -7,7 +7,7 @@ use native.Mathlib.Omega.{arith}
 use mir.Syntax.{w16}
 use mir.Val.{Fits}
 use Rattle.kinds.specs.Answer.{refuse}
-use Rattle.kinds.specs.Checked.{Kept, Walk, shown}
+use Rattle.kinds.specs.declared.outcome.Check.TheVariants.{Kept, Walk}
 use Rattle.kinds.specs.Words.{at}
 use Rattle.kinds.specs.declared.answer.Reason.TheVariants.{TableLength, BadRequest}
 use Rattle.kinds.specs.declared.outcome.Check.{Check}
@@ -32,16 +32,16 @@ form_good y g h = rw g at h
 
 module _ (z : Sizes) (n : Lengths) (b : ℕ) (r e w g : List ℕ) (s : Live) (y : Request) {ok : Bool} (i : ok ≡ sized z n) where
   pub checked-asked : {good d : Bool} {k : ℕ} {x : Check} → ok ≡ true → good ≡ formed y → good ≡ true → k ≡ at s.state (fence_word z.pes) → d ≡ fenced k
-      → x ≡ shown (past_fence d y (asked z b r e w g s y (owner_in z r w g s.interrupts y))) → x ≡ shown (checked z b r e w g s (sized z n) y)
+      → x ≡ (past_fence d y (asked z b r e w g s y (owner_in z r w g s.interrupts y))) → x ≡ (checked z b r e w g s (sized z n) y)
   unfolding checked
   checked-asked o f h word fence x = x ∙ rw (← i, o, ← f, h, ← word, ← fence)
 
-  pub checked-formed : {good : Bool} {x : Check} → ok ≡ true → good ≡ formed y → good ≡ false → x ≡ shown (Kept (refuse BadRequest))
-      → x ≡ shown (checked z b r e w g s (sized z n) y)
+  pub checked-formed : {good : Bool} {x : Check} → ok ≡ true → good ≡ formed y → good ≡ false → x ≡ (Kept (refuse BadRequest))
+      → x ≡ (checked z b r e w g s (sized z n) y)
   unfolding checked
   checked-formed o f h x = x ∙ rw (← i, o, ← f, h)
 
-  pub checked-sized : {x : Check} → ok ≡ false → x ≡ shown (Kept (refuse TableLength)) → x ≡ shown (checked z b r e w g s (sized z n) y)
+  pub checked-sized : {x : Check} → ok ≡ false → x ≡ (Kept (refuse TableLength)) → x ≡ (checked z b r e w g s (sized z n) y)
   unfolding checked
   checked-sized o x = x ∙ rw (← i, o)
 

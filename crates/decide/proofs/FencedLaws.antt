@@ -6,7 +6,7 @@
 use mathlib.Core.Path.{◌≡◌, ◌∙◌}
 use mathlib.Core.Bool.{Bool, true, false}
 use Prim.Native.Nat.{ℕ, min}
-use Rattle.kinds.specs.Checked.{Checked, Kept, shown}
+use Rattle.kinds.specs.declared.outcome.Check.TheVariants.{Kept}
 use Rattle.kinds.proofs.Tests.{and_false}
 use Rattle.kinds.specs.declared.answer.Answer.TheVariants.{Ones}
 use Rattle.kinds.specs.declared.answer.Reason.TheVariants.{Fenced}
@@ -20,18 +20,18 @@ use Rattle.profile.specs.Windows.{ones_of}
 use Rattle.mmio.proofs.AccessLaws.{ones-formed}
 use Rattle.decide.specs.PastFence.{past_fence}
 
-module _ (b : Bool) (q : Request) (o : Checked) {x : Check} where
-  pub passed : b ≡ false → x ≡ shown o → x ≡ shown (past_fence b q o)
+module _ (b : Bool) (q : Request) (o : Check) {x : Check} where
+  pub passed : b ≡ false → x ≡ o → x ≡ (past_fence b q o)
   passed h f = f ∙ rw h
 
   module _ {k : Request} (is : q ≡ k) where
-    pub stopped : b ≡ true → stops k ≡ true → x ≡ shown (Kept (shut k)) → x ≡ shown (past_fence b q o)
+    pub stopped : b ≡ true → stops k ≡ true → x ≡ (Kept (shut k)) → x ≡ (past_fence b q o)
     stopped h s f = f ∙ rw (is, h, s)
 
-    pub never_stopped : stops k ≡ false → x ≡ shown o → x ≡ shown (past_fence b q o)
+    pub never_stopped : stops k ≡ false → x ≡ o → x ≡ (past_fence b q o)
     never_stopped s f = f ∙ rw (is, s, and_false)
 
-  pub load-stopped : {a : ByteAddress} {w c : ℕ} → q ≡ Load a w → formed q ≡ true → c ≡ ones_of (min w 8) → b ≡ true → x ≡ shown (Kept (Ones Fenced c))
-      → x ≡ shown (past_fence b q o)
+  pub load-stopped : {a : ByteAddress} {w c : ℕ} → q ≡ Load a w → formed q ≡ true → c ≡ ones_of (min w 8) → b ≡ true → x ≡ (Kept (Ones Fenced c))
+      → x ≡ (past_fence b q o)
   unfolding formed stops shut
   load-stopped {a} {w} is good ones h f = f ∙ rw (is, h, ones, ones-formed a w (rw is at good))

@@ -4,7 +4,8 @@
 --     message_of r p      PE p is frozen with its peers, and the record has the requester r
 -- Assumes nothing.
 use Rattle.std.specs.Prelude.{true, List, ℕ}
-use Rattle.kinds.specs.Checked.{Checked, Ready}
+use Rattle.kinds.specs.declared.outcome.Check.{Check}
+use Rattle.kinds.specs.declared.outcome.Check.TheVariants.{Ready}
 use Rattle.kinds.specs.Number.{no_word}
 use Rattle.kinds.specs.Outcome.{done}
 use Rattle.kinds.specs.Words.{at}
@@ -15,8 +16,8 @@ use Rattle.kinds.specs.declared.request.DmaRequest.{DmaRequest}
 use Rattle.profile.specs.Freeze.{stop_word}
 use Rattle.profile.specs.Step.{dma_asked}
 
-unfoldable pub dma_of : (count installed : ℕ) → (entries interrupts state : List ℕ) → DmaRequest → PeNumber → Checked
+unfoldable pub dma_of : (count installed : ℕ) → (entries interrupts state : List ℕ) → DmaRequest → PeNumber → Check
 dma_of c i e l t q p = dma_asked c i e l (at t (stop_word p)) p q
 
-unfoldable pub message_of : ℕ → PeNumber → Checked
+unfoldable pub message_of : ℕ → PeNumber → Check
 message_of r p = Ready p (done (Freeze (record { reason = ErrorMessage; value = r; word = no_word }) true))

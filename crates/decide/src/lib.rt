@@ -4,7 +4,7 @@
 pub mod forms;
 
 ghost use Rattle.std.specs.Prelude.{◌≡◌, true};
-ghost use Rattle.kinds.specs.Checked.{shown, Fences};
+ghost use Rattle.kinds.specs.declared.outcome.Check.TheVariants.{Fences};
 ghost use Rattle.profile.specs.Owner.{of_requester, owner_in};
 ghost use Rattle.profile.specs.Step.{formed, asked, checked, decided};
 ghost use Rattle.profile.specs.Tables.{sized};
@@ -41,7 +41,7 @@ fn by_requester(
     state: &[u64],
     dma: DmaRequest,
 ) -> Check
-    ensures { result ≡ shown (by_owner (dma_of interrupt installed entries.now interrupts.now state.now dma) (of_requester pes count requesters.now dma.requester)) }
+    ensures { result ≡ by_owner (dma_of interrupt installed entries.now interrupts.now state.now dma) (of_requester pes count requesters.now dma.requester) }
 {
     match owners::of_requester(pes, count, requesters, dma.requester) {
         Owner::Of(pe) => {
@@ -55,7 +55,7 @@ fn by_requester(
 
 // An error message of a PE, with its requester.
 fn message(pe: PeNumber, requester: u64) -> Check
-    ensures { result ≡ shown (message_of requester pe) }
+    ensures { result ≡ message_of requester pe }
 {
     let error = ErrorRecord {
         reason: Reason::ErrorMessage,
@@ -68,7 +68,7 @@ fn message(pe: PeNumber, requester: u64) -> Check
 
 // An error message, by its requester. N and R come first.
 fn error_message(pes: u16, count: u64, requesters: &[u16], requester: u64) -> Check
-    ensures { result ≡ shown (by_owner (message_of requester) (of_requester pes count requesters.now requester)) }
+    ensures { result ≡ by_owner (message_of requester) (of_requester pes count requesters.now requester) }
 {
     match owners::of_requester(pes, count, requesters, requester) {
         Owner::Of(pe) => message(pe, requester),
@@ -78,7 +78,7 @@ fn error_message(pes: u16, count: u64, requesters: &[u16], requester: u64) -> Ch
 
 // A fatal message, by its requester. N and R come first.
 fn fatal_message(pes: u16, count: u64, requesters: &[u16], requester: u64) -> Check
-    ensures { result ≡ shown (by_owner (λ _. Fences true) (of_requester pes count requesters.now requester)) }
+    ensures { result ≡ by_owner (λ _. Fences true) (of_requester pes count requesters.now requester) }
 {
     match owners::of_requester(pes, count, requesters, requester) {
         Owner::Of(_) => outcomes::fences(true),
@@ -102,7 +102,7 @@ fn ask(
     request: Request,
 ) -> Check
     requires { (formed request ≡ true) × (pes ≡ sizes.pes) }
-    ensures { result ≡ shown (past_fence fenced request (asked sizes installed requesters.now entries.now windows.now segments.now (live state.now interrupts.now) request (owner_in sizes requesters.now windows.now segments.now interrupts.now request))) }
+    ensures { result ≡ past_fence fenced request (asked sizes installed requesters.now entries.now windows.now segments.now (live state.now interrupts.now) request (owner_in sizes requesters.now windows.now segments.now interrupts.now request)) }
 {
     match request {
         Request::Dma(dma) => {
@@ -191,7 +191,7 @@ pub fn check(
     state: &[u64],
     request: Request,
 ) -> Check
-    ensures { result ≡ shown (checked sizes installed requesters.now entries.now windows.now segments.now (live state.now interrupts.now) (sized sizes lengths) request) }
+    ensures { result ≡ checked sizes installed requesters.now entries.now windows.now segments.now (live state.now interrupts.now) (sized sizes lengths) request }
 {
     if sizes::sized(sizes, lengths) {
         if forms::is_formed(request) {

@@ -1,4 +1,6 @@
 -- What the functions of `dma` are proved from. Assumes nothing.
+use Rattle.kinds.specs.Lookup.{Translated, fault}
+use Rattle.std.specs.Prelude.{Ok}
 use mathlib.Core.Path.{◌≡◌, ap, sym, ◌∙◌}
 use mathlib.Core.Bool.{Bool, true, false}
 use mathlib.Core.List.{List}
@@ -7,15 +9,13 @@ use native.Mathlib.Omega.{arith}
 use lib.Dec.{ltb}
 use borrow.Author.Tests.{ltb-true, ltb-false, lt-ltb, le-ltb}
 use Rattle.kinds.specs.Answer.{refuse}
-use Rattle.kinds.specs.Checked.{Kept, Ready, Walk, shown}
+use Rattle.kinds.specs.declared.outcome.Check.TheVariants.{Kept, Ready, Walk}
 use Rattle.kinds.specs.Number.{no_word}
 use Rattle.kinds.specs.Outcome.{failed}
 use Rattle.kinds.proofs.Tests.{by_cases}
 use Rattle.kinds.specs.Words.{at}
 use Rattle.kinds.specs.declared.answer.Reason.{Reason}
 use Rattle.kinds.specs.declared.answer.Reason.TheVariants.{DmaStopped, MsiRefused, AddressClass, AboveInstalled}
-use Rattle.kinds.specs.declared.lookup.Translated.{Translated}
-use Rattle.kinds.specs.declared.lookup.Translated.TheVariants.{To, Fault}
 use Rattle.kinds.specs.declared.number.ByteAddress.{ByteAddress}
 use Rattle.kinds.specs.declared.number.PeNumber.{PeNumber}
 use Rattle.kinds.specs.declared.outcome.Check.{Check}
@@ -51,16 +51,16 @@ module _ (i : ℕ) (a : ByteAddress) (n : ℕ) {r : ℕ} (far : r ≡ n - 1) whe
 
 -- `last_test`
 module _ (i n : ℕ) (t : Translated) where
-  module _ {a : ByteAddress} {b : Bool} (is : t ≡ To a) (asks : b ≡ installed_to i a n) where
-    pub all-installed : b ≡ true → To a ≡ last_test i n t
+  module _ {a : ByteAddress} {b : Bool} (is : t ≡ Ok a) (asks : b ≡ installed_to i a n) where
+    pub all-installed : b ≡ true → Ok a ≡ last_test i n t
     unfolding last_test
     all-installed o = rw (is, ← asks, o)
 
-    pub not_installed : b ≡ false → Fault AboveInstalled no_word ≡ last_test i n t
+    pub not_installed : b ≡ false → fault AboveInstalled no_word ≡ last_test i n t
     unfolding last_test
     not_installed o = rw (is, ← asks, o)
 
-  pub fault-stays : {r : Reason} {w : ByteAddress} → t ≡ Fault r w → t ≡ last_test i n t
+  pub fault-stays : {r : Reason} {w : ByteAddress} → t ≡ fault r w → t ≡ last_test i n t
   unfolding last_test
   fault-stays is = rw is
 
@@ -83,15 +83,15 @@ module _ (i : ℕ) (e : TranslationEntry) (p : PeNumber) (q : DmaRequest) {o : B
   at_offset : c ≡ asked e (offset q.address)
   at_offset = asks ∙ rw cut
 
-  pub by_walk : {y : Check} → b ≡ true → y ≡ shown (Walk p e q) → y ≡ shown (by_entry i e p q)
+  pub by_walk : {y : Check} → b ≡ true → y ≡ (Walk p e q) → y ≡ (by_entry i e p q)
   unfolding by_entry
   by_walk w f = f ∙ rw (walk-walks e (offset q.address) at_offset (sym is ∙ w))
 
-  pub by_end : {t : Translated} {x : Outcome} {y : Check} → b ≡ false → t ≡ ended c o → x ≡ reached i p q t 0 → y ≡ shown (Ready p x) → y ≡ shown (by_entry i e p q)
+  pub by_end : {t : Translated} {x : Outcome} {y : Check} → b ≡ false → t ≡ ended c o → x ≡ reached i p q t 0 → y ≡ (Ready p x) → y ≡ (by_entry i e p q)
   unfolding by_entry
   by_end w ends f made =
       let n : is_walk c ≡ false = sym is ∙ w in
-      made ∙ rw (other-walks e (offset q.address) at_offset n, other-ends e (offset q.address) at_offset n) (ap (λ (u : Outcome). shown (Ready p u)) (f ∙ rw (ends, cut)))
+      made ∙ rw (other-walks e (offset q.address) at_offset n, other-ends e (offset q.address) at_offset n) (ap (λ (u : Outcome). (Ready p u)) (f ∙ rw (ends, cut)))
 
 -- `deliver`
 module _ (k : ℕ) (l : List ℕ) (p : PeNumber) (q : DmaRequest) (i : ℕ) {good : Bool} (form : good ≡ msi_formed q.direction q.address q.length) {x : Outcome} where
@@ -110,31 +110,31 @@ module _ (k : ℕ) (l : List ℕ) (p : PeNumber) (q : DmaRequest) (i : ℕ) {goo
 
 -- `by_class`
 module _ (k b : ℕ) (e l : List ℕ) (p : PeNumber) (q : DmaRequest) {c : classes.AddressClass} (h : c ≡ class_of q.address) where
-  class_case : {d : classes.AddressClass} {x : Check} → c ≡ d → x ≡ shown (served d k b e l p q) → x ≡ shown (served (class_of q.address) k b e l p q)
+  class_case : {d : classes.AddressClass} {x : Check} → c ≡ d → x ≡ (served d k b e l p q) → x ≡ (served (class_of q.address) k b e l p q)
   class_case i f = rw (← h, i) f
 
-  pub by_table : {r : TranslationEntry} {x : Check} → c ≡ class.Dma → r ≡ entry_in e p (half q.address) → x ≡ shown (by_entry b r p q)
-      → x ≡ shown (served (class_of q.address) k b e l p q)
+  pub by_table : {r : TranslationEntry} {x : Check} → c ≡ class.Dma → r ≡ entry_in e p (half q.address) → x ≡ (by_entry b r p q)
+      → x ≡ (served (class_of q.address) k b e l p q)
   by_table i r f = class_case i (unfold served in rw (← r) f)
 
   -- the number of an MSI is that which its window gives
-  module _ {i : ℕ} {x : Outcome} {y : Check} (made : y ≡ shown (Ready p x)) (f : x ≡ msi k l p q.address i (msi_formed q.direction q.address q.length)) where
-    pub by_msi32 : c ≡ class.Msi32 → i ≡ number32 q.address q.«data» → y ≡ shown (served (class_of q.address) k b e l p q)
-    by_msi32 o n = class_case o (unfold served in rw (← n) (made ∙ ap (λ (u : Outcome). shown (Ready p u)) f))
+  module _ {i : ℕ} {x : Outcome} {y : Check} (made : y ≡ (Ready p x)) (f : x ≡ msi k l p q.address i (msi_formed q.direction q.address q.length)) where
+    pub by_msi32 : c ≡ class.Msi32 → i ≡ number32 q.address q.«data» → y ≡ (served (class_of q.address) k b e l p q)
+    by_msi32 o n = class_case o (unfold served in rw (← n) (made ∙ ap (λ (u : Outcome). (Ready p u)) f))
 
-    pub by_msi64 : c ≡ class.Msi64 → i ≡ number64 q.address q.«data» → y ≡ shown (served (class_of q.address) k b e l p q)
-    by_msi64 o n = class_case o (unfold served in rw (← n) (made ∙ ap (λ (u : Outcome). shown (Ready p u)) f))
+    pub by_msi64 : c ≡ class.Msi64 → i ≡ number64 q.address q.«data» → y ≡ (served (class_of q.address) k b e l p q)
+    by_msi64 o n = class_case o (unfold served in rw (← n) (made ∙ ap (λ (u : Outcome). (Ready p u)) f))
 
-  pub by_none : {x : Outcome} {y : Check} → y ≡ shown (Ready p x) → c ≡ class.Unserved → x ≡ failed AddressClass q.address 0 no_word → y ≡ shown (served (class_of q.address) k b e l p q)
-  by_none made i f = class_case i (unfold served in made ∙ ap (λ (u : Outcome). shown (Ready p u)) f)
+  pub by_none : {x : Outcome} {y : Check} → y ≡ (Ready p x) → c ≡ class.Unserved → x ≡ failed AddressClass q.address 0 no_word → y ≡ (served (class_of q.address) k b e l p q)
+  by_none made i f = class_case i (unfold served in made ∙ ap (λ (u : Outcome). (Ready p u)) f)
 
 -- `check_dma`
 module _ (k b : ℕ) (e l t : List ℕ) (p : PeNumber) (q : DmaRequest) {w : ℕ} {o : Bool} (h : w ≡ at t (stop_word p)) (i : o ≡ dma_stopped w) where
-  pub stopped : {x : Check} → o ≡ true → x ≡ shown (Kept (refuse DmaStopped)) → x ≡ shown (dma_asked k b e l (at t (stop_word p)) p q)
+  pub stopped : {x : Check} → o ≡ true → x ≡ (Kept (refuse DmaStopped)) → x ≡ (dma_asked k b e l (at t (stop_word p)) p q)
   unfolding dma_asked
   stopped z f = f ∙ rw (← h, ← i, z)
 
-  pub running : {x : Check} → o ≡ false → x ≡ shown (served (class_of q.address) k b e l p q) → x ≡ shown (dma_asked k b e l (at t (stop_word p)) p q)
+  pub running : {x : Check} → o ≡ false → x ≡ (served (class_of q.address) k b e l p q) → x ≡ (dma_asked k b e l (at t (stop_word p)) p q)
   unfolding dma_asked
   running z f = f ∙ rw (← h, ← i, z)
 

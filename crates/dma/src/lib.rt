@@ -2,7 +2,7 @@
 #![tactic(auto)]
 
 ghost use Rattle.std.specs.Prelude.{◌≡◌, ◌-◌};
-ghost use Rattle.kinds.specs.Checked.{shown, Walk};
+ghost use Rattle.kinds.specs.declared.outcome.Check.TheVariants.{Walk};
 ghost use Rattle.kinds.specs.Words.{at};
 ghost use Rattle.profile.specs.Entry.{class_of};
 ghost use Rattle.profile.specs.Freeze.{stop_word};
@@ -126,7 +126,7 @@ fn ended(way: Way, offset: ByteAddress) -> Translated
 
 // By the entry that the address picks.
 fn by_entry(installed: u64, entry: TranslationEntry, pe: PeNumber, dma: DmaRequest) -> Check
-    ensures { result ≡ shown (by_entry installed entry pe dma) }
+    ensures { result ≡ by_entry installed entry pe dma }
 {
     let offset = addresses::offset_of(dma.address);
     let way = ask::ask(entry, offset);
@@ -162,7 +162,7 @@ fn by_class(
     pe: PeNumber,
     dma: DmaRequest,
 ) -> Check
-    ensures { result ≡ shown (served (class_of dma.address) count installed entries.now interrupts.now pe dma) }
+    ensures { result ≡ served (class_of dma.address) count installed entries.now interrupts.now pe dma }
 {
     let address = dma.address;
     match addresses::class_of(address) {
@@ -201,7 +201,7 @@ pub fn check_dma(
     pe: PeNumber,
     dma: DmaRequest,
 ) -> Check
-    ensures { result ≡ shown (dma_asked count installed entries.now interrupts.now (at state.now (stop_word pe)) pe dma) }
+    ensures { result ≡ dma_asked count installed entries.now interrupts.now (at state.now (stop_word pe)) pe dma }
 {
     let stop = endpoints::stop_word(state, pe);
     if endpoints::dma_stopped(stop) {

@@ -5,11 +5,10 @@
 --     is_walk x           way x is a walk of the page table
 --     ended x o           what offset o comes to by way x, with no word of memory asked for; a walk is none of these
 -- Assumes nothing.
-use Rattle.std.specs.Prelude.{Bool, true, false, cond, ◌^◌, ltb}
+use Rattle.kinds.specs.Lookup.{Translated, fault}
+use Rattle.std.specs.Prelude.{Bool, true, false, cond, ◌^◌, ltb, Ok}
 use Rattle.kinds.specs.Number.{no_word}
 use Rattle.kinds.specs.declared.answer.Reason.TheVariants as reason
-use Rattle.kinds.specs.declared.lookup.Translated.{Translated}
-use Rattle.kinds.specs.declared.lookup.Translated.TheVariants.{To, Fault}
 use Rattle.kinds.specs.declared.number.ByteAddress.{ByteAddress}
 use Rattle.kinds.specs.declared.record.TranslationEntry.{TranslationEntry}
 use Rattle.profile.specs.Entry.{page_size, span, table_good, bypass, bypass_good, in_bypass, pages_good}
@@ -32,7 +31,7 @@ is_walk BadEntry = false
 is_walk OutsideWindow = false
 
 abbrev pub ended : Way → (offset : ByteAddress) → Translated
-ended (Walk s) o = Fault reason.BadEntry no_word
-ended Bypass o = To o
-ended BadEntry o = Fault reason.BadEntry no_word
-ended OutsideWindow o = Fault reason.OutsideWindow no_word
+ended (Walk s) o = fault reason.BadEntry no_word
+ended Bypass o = Ok o
+ended BadEntry o = fault reason.BadEntry no_word
+ended OutsideWindow o = fault reason.OutsideWindow no_word

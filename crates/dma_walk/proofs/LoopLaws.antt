@@ -1,14 +1,13 @@
 -- The turns of a loop over the levels of a walk. Its invariant says that the walk from the top is the walk of the levels that are left, after the words read.
 --     later n w           walk w after n words
 -- Assumes nothing.
+use Rattle.kinds.specs.Lookup.{Found, forbidden}
 use Rattle.std.specs.Prelude.{◌≡◌, true, List, ℕ, zero, suc, ◌+◌, ◌-◌, ◌*◌, ◌≤◌, ◌<◌}
 use Rattle.std.proofs.Common.{sym, ap, ◌∙◌, mul-le-mul_left, zero-add, add-zero, suc-add, add-suc, add-one, sub-one, arith, Fits}
 use Rattle.std.specs.Int.{w64}
 use Rattle.profile.specs.Entry.{aligned, offset_bits, most_levels}
 use Rattle.kinds.specs.Number.{no_word}
 use Rattle.kinds.specs.Words.{at}
-use Rattle.kinds.specs.declared.lookup.Found.{Found}
-use Rattle.kinds.specs.declared.lookup.Found.TheVariants.{Forbidden}
 use Rattle.kinds.specs.declared.number.ByteAddress.{ByteAddress}
 use Rattle.kinds.specs.declared.number.PageNumber.{PageNumber}
 use Rattle.profile.specs.Walk.{place, next_base, walk_from}
@@ -62,7 +61,7 @@ module _ (m : List ℕ) (q : PageNumber) (n top l words : ℕ) (first base : Byt
 -- no level is left
 pub done : (m : List ℕ) (q : PageNumber) (n top l words : ℕ) (first base : ByteAddress) →
     counted (walk_from m top n first q) ≡ later words (counted (walk_from m l n base q)) → l ≤ 0 →
-    ◌≡◌ {A = Walked} (record { found = Forbidden no_word; words = words }) (counted (walk_from m top n first q))
+    ◌≡◌ {A = Walked} (record { found = forbidden no_word; words = words }) (counted (walk_from m top n first q))
 unfolding walk_from
 done m q n top zero words first base same none = sym (same ∙ rw add-zero)
 done m q n top (suc k) words first base same none = absurd (omega arith)

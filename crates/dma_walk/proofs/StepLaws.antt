@@ -1,4 +1,5 @@
 -- What one level of a walk is proved from: shifts and masks, and one turn. Assumes nothing.
+use Rattle.kinds.specs.Lookup.{frame, forbidden, outside}
 use Rattle.std.specs.Prelude.{◌≡◌, refl, Bool, true, false, cond, ℕ, zero, suc, ◌+◌, ◌-◌, ◌*◌, ◌/◌, ◌%◌, ◌^◌, ◌≤◌, ◌<◌, length, List}
 use Rattle.std.proofs.Math.Path.{sym}
 use Rattle.std.proofs.Common.{ap, ◌∙◌, mod-lt, mod-eq_of_lt, mul_assoc, mul_comm, arith, Fits, pow-add, pow_pos}
@@ -9,7 +10,6 @@ use Rattle.kinds.specs.Number.{word_bytes, word_address}
 use Rattle.kinds.specs.Words.{at}
 use borrow.Author.Tests.{lt-ltb, le-ltb, ne_eqb, eqb-true}
 use Rattle.kinds.proofs.Powers.{one_shl_pos, masked, mod_lt_pow, cleared, joined-fits}
-use Rattle.kinds.specs.declared.lookup.Found.TheVariants.{Frame, Forbidden, Outside}
 use Rattle.kinds.specs.declared.number.ByteAddress.{ByteAddress}
 use Rattle.kinds.specs.declared.number.PageNumber.{PageNumber}
 use Rattle.profile.specs.Entry.{aligned, most_table_code, code_bits}
@@ -50,18 +50,18 @@ module _ {n : ℕ} (few : n ≤ most_table_code + code_bits) (b : ByteAddress) (
       omega (arith, base-words, here)
 
 -- `turn`: the last word
-pub last_word : (k n j w : ℕ) {a : ByteAddress} → k ≡ 0 → a ≡ word_address j → End (Frame a w) 1 ≡ next k n j w
+pub last_word : (k n j w : ℕ) {a : ByteAddress} → k ≡ 0 → a ≡ word_address j → End (frame a w) 1 ≡ next k n j w
 unfolding next
 last_word k n j w z e = rw (z, e)
 
 -- and an upper word
-upper : (k n j w : ℕ) → (k ≡ 0 → ⊥) → next k n j w ≡ cond (leads n w) (Table (next_base w)) (End (Forbidden (word_address j)) 1)
+upper : (k n j w : ℕ) → (k ≡ 0 → ⊥) → next k n j w ≡ cond (leads n w) (Table (next_base w)) (End (forbidden (word_address j)) 1)
 unfolding next
 upper zero n j w up = absurd (up refl)
 upper (suc k) n j w up = refl
 
 module _ (k n j w : ℕ) (up : k ≡ 0 → ⊥) where
-  pub no_rights : w % 4 ≡ 0 → {x : Next} → x ≡ End (Forbidden (word_address j)) 1 → x ≡ next k n j w
+  pub no_rights : w % 4 ≡ 0 → {x : Next} → x ≡ End (forbidden (word_address j)) 1 → x ≡ next k n j w
   unfolding leads
   no_rights z f = f ∙ sym (upper k n j w up ∙ rw z)
 
@@ -70,13 +70,13 @@ module _ (k n j w : ℕ) (up : k ≡ 0 → ⊥) where
     unfolding leads
     leads-on t = sym (upper k n j w up ∙ rw (ne_eqb _ _ rights, ← e, ← whole, t))
 
-    pub misaligned : ok ≡ false → {x : Next} → x ≡ End (Forbidden (word_address j)) 1 → x ≡ next k n j w
+    pub misaligned : ok ≡ false → {x : Next} → x ≡ End (forbidden (word_address j)) 1 → x ≡ next k n j w
     unfolding leads
     misaligned t f = f ∙ sym (upper k n j w up ∙ rw (ne_eqb _ _ rights, ← e, ← whole, t))
 
 -- `step`
 module _ (m : List ℕ) (k n : ℕ) (b : ByteAddress) (q : PageNumber) {p : ℕ} (here : p ≡ place k n b q) where
-  pub outside : length m ≤ p → {a : ByteAddress} → a ≡ word_address p → End (Outside a) 0 ≡ stepped m k n b q
+  pub outside : length m ≤ p → {a : ByteAddress} → a ≡ word_address p → End (outside a) 0 ≡ stepped m k n b q
   unfolding stepped
   outside h e = rw (e, ← here, le-ltb _ _ h)
 

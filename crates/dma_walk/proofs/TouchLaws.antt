@@ -1,4 +1,5 @@
 -- Whether a walk reads a word, level by level and without a list. Assumes nothing.
+use Rattle.kinds.specs.Lookup.{Found}
 use mathlib.Core.Path.{◌≡◌, refl, sym, ◌∙◌}
 use mathlib.Core.Bool.{Bool, true, false}
 use mathlib.Core.List.{List, [], ◌∷◌}
@@ -10,7 +11,6 @@ use borrow.Author.Tests.{eq-eqb, ne_eqb}
 use Rattle.kinds.specs.Has.{has}
 use Rattle.kinds.proofs.Tests.{by_cases}
 use Rattle.kinds.specs.Words.{at}
-use Rattle.kinds.specs.declared.lookup.Found.{Found}
 use Rattle.kinds.specs.declared.number.ByteAddress.{ByteAddress}
 use Rattle.kinds.specs.declared.number.PageNumber.{PageNumber}
 use Rattle.kinds.specs.declared.record.TranslationEntry.{TranslationEntry}

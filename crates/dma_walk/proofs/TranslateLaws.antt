@@ -1,4 +1,6 @@
 -- A translation: by the last table word, by what the walk found, and by the entry. Assumes nothing.
+use Rattle.kinds.specs.Lookup.{Found, frame, fault, forbidden}
+use Rattle.std.specs.Prelude.{Ok}
 use mathlib.Core.Path.{◌≡◌, sym, ap, ◌∙◌}
 use mathlib.Core.Bool.{Bool, true, false}
 use mathlib.Core.List.{List}
@@ -9,10 +11,6 @@ use Rattle.kinds.specs.Number.{page_number, byte_address, no_word}
 use Rattle.kinds.proofs.NumberLaws.{byte_fits}
 use Rattle.kinds.proofs.Tests.{all_true}
 use Rattle.kinds.specs.declared.answer.Reason.TheVariants as reason
-use Rattle.kinds.specs.declared.lookup.Found.{Found}
-use Rattle.kinds.specs.declared.lookup.Found.TheVariants.{Frame, Forbidden}
-use Rattle.kinds.specs.declared.lookup.Translated.TheVariants.{To, Fault}
-use Rattle.kinds.specs.declared.lookup.Translated as translated-kinds
 use Rattle.kinds.specs.declared.number.ByteAddress.{ByteAddress}
 use Rattle.kinds.specs.declared.number.PageNumber.{PageNumber}
 use Rattle.kinds.specs.declared.number.PageSize.{PageSize}
@@ -32,13 +30,13 @@ allowed d w z f = f ∙ rw z
 module _ (s : PageSize) (d : Direction) (o : ByteAddress) where
   module _ (a : ByteAddress) (w : ℕ) {ok : Bool} (e : ok ≡ allows d w) where
     pub passes : w < 2 ^ 64 → {q : PageNumber} {t : ByteAddress} → ok ≡ true →
-        q ≡ page_number s (record { 0 = w }) → t.0 ≡ (byte_address s q o).0 % 2 ^ 64 → To t ≡ landed s d o (Frame a w)
+        q ≡ page_number s (record { 0 = w }) → t.0 ≡ (byte_address s q o).0 % 2 ^ 64 → Ok t ≡ landed s d o (frame a w)
     unfolding landed
     passes h {q} {t} g page to =
         let z : t.0 ≡ (byte_address s (page_number s (record { 0 = w })) o).0 = to ∙ rw page (mod-eq_of_lt (byte_fits s w o h)) in
-        rw (← e, g) (ap (λ (x : ℕ). To (record { 0 = x })) z)
+        rw (← e, g) (ap (λ (x : ℕ). Ok (record { 0 = x })) z)
 
-    pub forbids : ok ≡ false → Fault reason.TableWord a ≡ landed s d o (Frame a w)
+    pub forbids : ok ≡ false → fault reason.TableWord a ≡ landed s d o (frame a w)
     unfolding landed
     forbids g = rw (← e, g)
 
@@ -57,7 +55,7 @@ module _ (m : List ℕ) (e : TranslationEntry) (q : PageNumber) {ok : Bool} (ask
   pub page-walked : {r : Walked} → ok ≡ true → r ≡ counted (walk m e q) → r ≡ counted (walked_page m e q)
   page-walked t f = f ∙ rw (← asks, t)
 
-  pub page-none : ok ≡ false → ◌≡◌ {A = Walked} (record { found = Forbidden no_word; words = 0 }) (counted (walked_page m e q))
+  pub page-none : ok ≡ false → ◌≡◌ {A = Walked} (record { found = forbidden no_word; words = 0 }) (counted (walked_page m e q))
   page-none t = rw (← asks, t)
 
 walkable-shaped : (e : TranslationEntry) → walkable e ≡ true → Shaped e

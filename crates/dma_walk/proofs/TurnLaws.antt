@@ -2,11 +2,11 @@
 --     step_is             THE LAW: the walk of one level more, by what that level comes to
 --     step-base           the base that a level leads to; step-aligned: it is aligned; step_words: a level reads at most one word
 -- Assumes nothing.
+use Rattle.kinds.specs.Lookup.{Found}
 use Rattle.std.specs.Prelude.{◌≡◌, refl, true, not, List, ℕ, zero, suc, ◌≤◌, ◌%◌, ltb, eqb, length}
 use Rattle.std.proofs.Common.{arith}
 use Rattle.kinds.proofs.Tests.{by_cases, and_right}
 use Rattle.kinds.specs.Words.{at}
-use Rattle.kinds.specs.declared.lookup.Found.{Found}
 use Rattle.kinds.specs.declared.number.ByteAddress.{ByteAddress}
 use Rattle.kinds.specs.declared.number.PageNumber.{PageNumber}
 use Rattle.profile.specs.Entry.{aligned}

@@ -6,10 +6,10 @@
 --     Shaped e            what the loop asks of an entry: its table code, its levels and the bits of its indexes are small, and its base is aligned
 --     summed t            a translation with the number of words that it read
 -- Assumes nothing.
+use Rattle.kinds.specs.Lookup.{frame, forbidden, outside}
 use Rattle.std.specs.Prelude.{◌≡◌, true, cond, List, ℕ, zero, suc, ◌*◌, ◌≤◌, ltb, length}
 use Rattle.kinds.specs.Number.{word_address}
 use Rattle.kinds.specs.Words.{at}
-use Rattle.kinds.specs.declared.lookup.Found.TheVariants.{Frame, Forbidden, Outside}
 use Rattle.kinds.specs.declared.number.ByteAddress.{ByteAddress}
 use Rattle.kinds.specs.declared.number.PageNumber.{PageNumber}
 use Rattle.kinds.specs.declared.record.TranslationEntry.{TranslationEntry}
@@ -28,13 +28,13 @@ pub record Shaped (e : TranslationEntry) : Type 0 where
   pub base : aligned (index_bits e) (record { 0 = e.base }) ≡ true
 
 unfoldable pub next : (below bits place content : ℕ) → Next
-next zero n j w = End (Frame (word_address j) w) 1
-next (suc k) n j w = cond (leads n w) (Table (next_base w)) (End (Forbidden (word_address j)) 1)
+next zero n j w = End (frame (word_address j) w) 1
+next (suc k) n j w = cond (leads n w) (Table (next_base w)) (End (forbidden (word_address j)) 1)
 
 unfoldable pub stepped : List ℕ → (below bits : ℕ) → ByteAddress → PageNumber → Next
 stepped m k n b q =
     cond (ltb (place k n b q) (length m)) (next k n (place k n b q) (at m (place k n b q)))
-    (End (Outside (word_address (place k n b q))) 0)
+    (End (outside (word_address (place k n b q))) 0)
 
 abbrev pub counted : definition.Walked → Walked
 counted w = record { found = w.found; words = length w.reads }

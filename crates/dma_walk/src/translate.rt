@@ -1,6 +1,6 @@
 // The translation of an offset by the page table of an entry. It knows no PE.
+ghost use Rattle.kinds.specs.Lookup.{frame};
 ghost use Rattle.std.specs.Prelude.{◌≡◌};
-ghost use Rattle.kinds.specs.declared.lookup.Found.TheVariants.{Frame};
 ghost use Rattle.profile.specs.Walk.{allows, landed, by_pages};
 ghost use Rattle.dma_walk.specs.Turn.{summed};
 
@@ -65,7 +65,7 @@ fn land_in(
     word: ByteAddress,
     content: u64,
 ) -> Translated
-    ensures { result ≡ landed size direction offset (Frame word content) }
+    ensures { result ≡ landed size direction offset (frame word content) }
 {
     if allows(direction, content) {
         let frame = page_number(size, ByteAddress(content));

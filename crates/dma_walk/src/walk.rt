@@ -1,7 +1,8 @@
 // The walk of a page table.
+ghost use Rattle.kinds.specs.declared.lookup.WalkError.TheVariants.{Forbidden};
+ghost use Rattle.kinds.specs.Lookup.{forbidden};
 ghost use Rattle.std.specs.Prelude.{◌≡◌, true, ◌+◌, ◌*◌, ◌^◌, ◌<◌, ◌≤◌};
 ghost use Rattle.kinds.specs.Number.{word_bytes, word_address};
-ghost use Rattle.kinds.specs.declared.lookup.Found.TheVariants.{Forbidden};
 ghost use Rattle.profile.specs.Entry.{aligned, most_table_code, code_bits};
 ghost use Rattle.profile.specs.Walk.{place, next_base, walk, walked_page};
 ghost use Rattle.dma_walk.specs.Turn.{Shaped, next, stepped, counted};
@@ -78,7 +79,7 @@ pub(crate) fn turn(below: u64, bits: u64, place: u64, content: u64) -> Next
 // The end at an upper word that does not lead on.
 fn forbidden(place: u64) -> Next
     requires { place * word_bytes < 2 ^ 64 }
-    ensures { result ≡ End (Forbidden (word_address place)) 1 }
+    ensures { result ≡ End (forbidden (word_address place)) 1 }
 {
     Next::End {
         found: Found::Forbidden {

@@ -7,7 +7,7 @@
 --     Placed, places      operations on that bridge and their places, PE 2 being the group; places_hold: THE STATEMENT over them
 --     below_hold, class_hold, walks_hold  the parts of the test of reach
 -- Assumes nothing.
-use Rattle.std.specs.Prelude.{◌≡◌, refl, Bool, true, false, List, [], ◌∷◌, map, ℕ, ◌-◌, ◌≤◌, ◌^◌, eqb, length, set, replicate}
+use Rattle.std.specs.Prelude.{◌≡◌, refl, Bool, true, false, List, [], ◌∷◌, map, ℕ, ◌-◌, ◌≤◌, ◌^◌, eqb, length, set, replicate, Ok, Err}
 use mathlib.Core.List.Memᴰ
 use Rattle.std.proofs.Math.Option.{Option, none, some}
 use Rattle.std.proofs.Common.{arith}
@@ -17,7 +17,6 @@ use Rattle.kinds.proofs.Tests.{by_cases}
 use Rattle.kinds.specs.declared.answer.Answer.{Answer}
 use Rattle.kinds.specs.declared.answer.Answer.TheVariants.{Done}
 use Rattle.kinds.specs.declared.answer.Reason.TheVariants.{TableLength, BadRequest, TableWord, BadFirmware}
-use Rattle.kinds.specs.declared.lookup.Owner.TheVariants.{Of, Nobody}
 use Rattle.kinds.specs.declared.number.ByteAddress.{ByteAddress}
 use Rattle.kinds.specs.declared.number.PeNumber.{PeNumber}
 use Rattle.kinds.specs.declared.request.AddressClass.TheVariants.{Dma, Msi32, Msi64, Unserved}
@@ -105,7 +104,7 @@ unfolding opened memory
 list_hold = refl
 
 pub owners_hold : map (scope_owner 4) (scope.All ∷ scope.Pe 0 ∷ scope.Pe 3 ∷ scope.Pe 4 ∷ scope.Address 3 (to 7) ∷ scope.Address 4 (to 7) ∷ []) ≡
-    Nobody BadFirmware ∷ Of (record { 0 = 0 }) ∷ Of (record { 0 = 3 }) ∷ Nobody BadFirmware ∷ Of (record { 0 = 3 }) ∷ Nobody BadFirmware ∷ []
+    Err BadFirmware ∷ Ok (record { 0 = 0 }) ∷ Ok (record { 0 = 3 }) ∷ Err BadFirmware ∷ Ok (record { 0 = 3 }) ∷ Err BadFirmware ∷ []
 unfolding opened
 owners_hold = refl
 

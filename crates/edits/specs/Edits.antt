@@ -16,16 +16,15 @@
 --     Fresh G f s t q     each word that edit q brings into reach of the group is equal in s and t, which it meets
 --     Alive G f s t       what the group sees of two such bridges
 -- Assumes nothing.
-use Rattle.std.specs.Prelude.{◌≡◌, Bool, true, cond, List, ℕ, ltb, length, set}
+use Rattle.kinds.specs.Lookup.{Owner}
+use Rattle.std.specs.Prelude.{◌≡◌, Bool, true, cond, List, ℕ, ltb, length, set, Err}
 use Rattle.std.proofs.Math.Option.{Option, none, some}
 use Rattle.kinds.specs.Answer.{refuse, is_done}
-use Rattle.kinds.specs.Checked.{Checked}
+use Rattle.kinds.specs.declared.outcome.Check.{Check}
 use Rattle.kinds.specs.Words.{at}
 use Rattle.kinds.specs.declared.answer.Answer.{Answer}
 use Rattle.kinds.specs.declared.answer.Answer.TheVariants.{Done}
 use Rattle.kinds.specs.declared.answer.Reason.TheVariants.{TableLength, BadRequest, BadFirmware}
-use Rattle.kinds.specs.declared.lookup.Owner.{Owner}
-use Rattle.kinds.specs.declared.lookup.Owner.TheVariants.{Nobody}
 use Rattle.kinds.specs.declared.number.PeNumber.{PeNumber}
 use Rattle.kinds.specs.declared.outcome.Outcome.{Outcome}
 use Rattle.kinds.specs.declared.request.Operation.{Operation}
@@ -57,7 +56,7 @@ nameable n (scope.Pe p) = ltb p n
 nameable n (scope.Address p a) = ltb p n
 
 abbrev pub scope_owner : (pes : ℕ) → Scope → Owner
-scope_owner n scope.All = Nobody BadFirmware
+scope_owner n scope.All = Err BadFirmware
 scope_owner n (scope.Pe p) = named BadFirmware n p
 scope_owner n (scope.Address p a) = named BadFirmware n p
 
@@ -69,19 +68,19 @@ invalidate_answer ok b = cond ok (cond b Done (refuse BadFirmware)) (refuse Tabl
 
 -- ---- one operation
 
-abbrev pub checked_by : (ok : Bool) → Tables → Live → Request → Checked
+abbrev pub checked_by : (ok : Bool) → Tables → Live → Request → Check
 checked_by ok f s q = checked f.sizes f.installed f.requesters f.entries f.windows f.segments s ok q
 
-abbrev pub outcome_by : (ok : Bool) → (Checked → Outcome) → Tables → Live → Request → Outcome
+abbrev pub outcome_by : (ok : Bool) → (Check → Outcome) → Tables → Live → Request → Outcome
 outcome_by ok fin f s q = fin (checked_by ok f s q)
 
-abbrev pub answer_by : (ok : Bool) → (Checked → Outcome) → Tables → Bare → Operation → Answer
+abbrev pub answer_by : (ok : Bool) → (Check → Outcome) → Tables → Bare → Operation → Answer
 answer_by ok fin f s (Plain q) = (outcome_by ok fin f s.live q).answer
 answer_by ok fin f s (Edit k v) = edit_answer ok k (length s.memory)
 answer_by ok fin f s (Invalidate x) = invalidate_answer ok (nameable f.sizes.pes x)
 
 -- a word that memory has not is not written
-abbrev pub leaves_by : (ok : Bool) → (Checked → Outcome) → Tables → Bare → Operation → Bare
+abbrev pub leaves_by : (ok : Bool) → (Check → Outcome) → Tables → Bare → Operation → Bare
 leaves_by ok fin f s (Plain q) = record {
   memory = s.memory;
   live = act_by f (owner f s.live q) (outcome_by ok fin f s.live q).effect s.live;

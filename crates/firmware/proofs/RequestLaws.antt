@@ -6,7 +6,7 @@
 use mathlib.Core.Path.{◌≡◌, ap, ◌∙◌}
 use mathlib.Core.List.{List}
 use Prim.Native.Nat.{ℕ}
-use Rattle.kinds.specs.Checked.{Ready, shown}
+use Rattle.kinds.specs.declared.outcome.Check.TheVariants.{Ready}
 use Rattle.kinds.specs.Outcome.{done}
 use Rattle.kinds.specs.declared.number.PeNumber.{PeNumber}
 use Rattle.kinds.specs.declared.outcome.Check.{Check}
@@ -17,12 +17,12 @@ use Rattle.kinds.specs.declared.request.Part.{Part}
 use Rattle.profile.specs.Firmware.{on_good, ends, prioritized}
 use Rattle.profile.specs.Msi.{interrupt_in}
 
-pub cleared : (p : PeNumber) (c : Part) {x : Outcome} {y : Check} → y ≡ shown (Ready p x) → x ≡ done (Release c) → y ≡ shown (Ready p (done (Release c)))
-cleared p c made h = made ∙ ap (λ (o : Outcome). shown (Ready p o)) h
+pub cleared : (p : PeNumber) (c : Part) {x : Outcome} {y : Check} → y ≡ (Ready p x) → x ≡ done (Release c) → y ≡ (Ready p (done (Release c)))
+cleared p c made h = made ∙ ap (λ (o : Outcome). (Ready p o)) h
 
-module _ (p : PeNumber) (l : List ℕ) (i : ℕ) {e : Interrupt} (w : e ≡ interrupt_in l i) {x : Outcome} {y : Check} (made : y ≡ shown (Ready p x)) where
-  pub ended : x ≡ on_good e (ends i e) → y ≡ shown (Ready p (on_good (interrupt_in l i) (ends i (interrupt_in l i))))
-  ended h = made ∙ ap (λ (o : Outcome). shown (Ready p o)) (h ∙ ap (λ (y : Interrupt). on_good y (ends i y)) w)
+module _ (p : PeNumber) (l : List ℕ) (i : ℕ) {e : Interrupt} (w : e ≡ interrupt_in l i) {x : Outcome} {y : Check} (made : y ≡ (Ready p x)) where
+  pub ended : x ≡ on_good e (ends i e) → y ≡ (Ready p (on_good (interrupt_in l i) (ends i (interrupt_in l i))))
+  ended h = made ∙ ap (λ (o : Outcome). (Ready p o)) (h ∙ ap (λ (y : Interrupt). on_good y (ends i y)) w)
 
-  pub prioritized-to : (n : ℕ) → x ≡ on_good e (prioritized i n e) → y ≡ shown (Ready p (on_good (interrupt_in l i) (prioritized i n (interrupt_in l i))))
-  prioritized-to n h = made ∙ ap (λ (o : Outcome). shown (Ready p o)) (h ∙ ap (λ (y : Interrupt). on_good y (prioritized i n y)) w)
+  pub prioritized-to : (n : ℕ) → x ≡ on_good e (prioritized i n e) → y ≡ (Ready p (on_good (interrupt_in l i) (prioritized i n (interrupt_in l i))))
+  prioritized-to n h = made ∙ ap (λ (o : Outcome). (Ready p o)) (h ∙ ap (λ (y : Interrupt). on_good y (prioritized i n y)) w)

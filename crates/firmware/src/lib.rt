@@ -4,7 +4,7 @@
 pub mod interrupt;
 
 ghost use Rattle.std.specs.Prelude.{◌≡◌};
-ghost use Rattle.kinds.specs.Checked.{shown, Ready};
+ghost use Rattle.kinds.specs.declared.outcome.Check.TheVariants.{Ready};
 ghost use Rattle.kinds.specs.Outcome.{done};
 ghost use Rattle.kinds.specs.declared.answer.Reason.TheVariants.{BadFirmware};
 ghost use Rattle.kinds.specs.declared.outcome.Effect.TheVariants.{Release};
@@ -24,7 +24,7 @@ use owners;
 
 // A clear of a stop bit or of the error record of a PE.
 pub fn clear(pes: u16, pe: u64, part: Part) -> Check
-    ensures { result ≡ shown (by_owner (λ p. Ready p (done (Release part))) (named BadFirmware pes pe)) }
+    ensures { result ≡ by_owner (λ p. Ready p (done (Release part))) (named BadFirmware pes pe) }
 {
     match owners::named_pe(Reason::BadFirmware, pes, pe) {
         Owner::Of(pe) => {
@@ -37,7 +37,7 @@ pub fn clear(pes: u16, pe: u64, part: Part) -> Check
 
 // The end of an interrupt; `count` is M.
 pub fn end(pes: u16, count: u64, interrupts: &[u64], number: u64) -> Check
-    ensures { result ≡ shown (by_owner (λ p. Ready p (on_good (interrupt_in interrupts.now number) (ends number (interrupt_in interrupts.now number)))) (of_interrupt pes count interrupts.now number)) }
+    ensures { result ≡ by_owner (λ p. Ready p (on_good (interrupt_in interrupts.now number) (ends number (interrupt_in interrupts.now number)))) (of_interrupt pes count interrupts.now number) }
 {
     match owners::of_interrupt(pes, count, interrupts, number) {
         Owner::Of(pe) => {
@@ -51,7 +51,7 @@ pub fn end(pes: u16, count: u64, interrupts: &[u64], number: u64) -> Check
 
 // A new priority of an interrupt; `count` is M.
 pub fn prioritize(pes: u16, count: u64, interrupts: &[u64], number: u64, priority: u64) -> Check
-    ensures { result ≡ shown (by_owner (λ p. Ready p (on_good (interrupt_in interrupts.now number) (prioritized number priority (interrupt_in interrupts.now number)))) (of_interrupt pes count interrupts.now number)) }
+    ensures { result ≡ by_owner (λ p. Ready p (on_good (interrupt_in interrupts.now number) (prioritized number priority (interrupt_in interrupts.now number)))) (of_interrupt pes count interrupts.now number) }
 {
     match owners::of_interrupt(pes, count, interrupts, number) {
         Owner::Of(pe) => {

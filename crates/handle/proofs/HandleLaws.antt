@@ -5,7 +5,6 @@ use mathlib.Core.List.{List}
 use Prim.Native.Nat.{ℕ}
 use lib.ListN.{length}
 use Rattle.kinds.specs.Answer.{numbered}
-use Rattle.kinds.specs.Checked.{Checked, shown}
 use Rattle.kinds.specs.declared.number.PeNumber.{PeNumber}
 use Rattle.kinds.specs.declared.outcome.Check.{Check}
 use Rattle.kinds.specs.declared.outcome.Effect.{Effect}
@@ -57,16 +56,16 @@ module _ (n : ℕ) (v : List ℕ) (p : PeNumber) {e : Effect} (s l : List ℕ) w
 
 -- `handle`
 module _ (f : Tables) (m : List ℕ) (s : Live) (q : Request) {k : Lengths} {c : Check} (measured : k ≡ lengths f (length m) s)
-    (checks : c ≡ shown (checked f.sizes f.installed f.requesters f.entries f.windows f.segments s (sized f.sizes k) q)) where
-  abbrev x : Checked
+    (checks : c ≡ (checked f.sizes f.installed f.requesters f.entries f.windows f.segments s (sized f.sizes k) q)) where
+  abbrev x : Check
   x = checked_on f (length m) s q
 
-  is : c ≡ shown x
+  is : c ≡ x
   is = checked-is f m s q measured checks
 
   pub handled-kept : c.kept ≡ true → Handled f m s q c.outcome.answer s
   handled-kept h =
-      let kept-is : (shown x).kept ≡ true = rw is at h in
+      let kept-is : (x).kept ≡ true = rw is at h in
       let said : c.outcome ≡ decided f m s q = ap (λ (u : Check). u.outcome) is ∙ sym (kept_out f.installed m x kept-is) in
       let quiet : (decided f m s q).effect ≡ Keep = rw (kept_out f.installed m x kept-is) (kept-still x kept-is) in
       record {

@@ -9,12 +9,11 @@
 --     Acted, acts, acts_hold      single steps, and what they are to PEs 0, 1 and 2: a freeze with which record, a clear of which parts
 --     bits_mmio, bits_dma each of the two bits of a stop word by itself
 -- Assumes nothing.
-use Rattle.std.specs.Prelude.{◌≡◌, refl, Bool, true, false, List, [], ◌∷◌, ◌++◌, map, ℕ, ◌-◌, ◌^◌, replicate}
+use Rattle.kinds.specs.Lookup.{Owner}
+use Rattle.std.specs.Prelude.{◌≡◌, refl, Bool, true, false, List, [], ◌∷◌, ◌++◌, map, ℕ, ◌-◌, ◌^◌, replicate, Ok, Err}
 use Rattle.std.proofs.Math.Option.{Option, none, some}
 use Rattle.kinds.specs.Number.{no_word}
 use Rattle.kinds.specs.declared.answer.Reason.TheVariants.{TableWord, FrozenAsPeer, BadFirmware}
-use Rattle.kinds.specs.declared.lookup.Owner.{Owner}
-use Rattle.kinds.specs.declared.lookup.Owner.TheVariants.{Of, Nobody}
 use Rattle.kinds.specs.declared.number.PeNumber.{PeNumber}
 use Rattle.kinds.specs.declared.outcome.Effect.{Effect}
 use Rattle.kinds.specs.declared.outcome.Effect.TheVariants.{Keep, Freeze, Release, Interrupt, Fence}
@@ -205,20 +204,20 @@ uncleared = false ∷ false ∷ false ∷ []
 unfoldable pub acts : List Acted
 acts =
     -- with its peers: PE 2 is N, and no freeze of it stands there; alone
-    acted (Of (pe 1)) (Freeze own8 true) (some peer13 ∷ some own8 ∷ none ∷ []) uncleared
-    ∷ acted (Of (pe 1)) (Freeze own8 false) (none ∷ some own8 ∷ none ∷ []) uncleared
+    acted (Ok (pe 1)) (Freeze own8 true) (some peer13 ∷ some own8 ∷ none ∷ []) uncleared
+    ∷ acted (Ok (pe 1)) (Freeze own8 false) (none ∷ some own8 ∷ none ∷ []) uncleared
     -- each part, and of another PE
-    ∷ acted (Of (pe 1)) (Release Mmio) nobody_frozen (true ∷ false ∷ false ∷ [])
-    ∷ acted (Of (pe 1)) (Release Dma) nobody_frozen (false ∷ true ∷ false ∷ [])
-    ∷ acted (Of (pe 1)) (Release Record) nobody_frozen (false ∷ false ∷ true ∷ [])
-    ∷ acted (Of (pe 0)) (Release Mmio) nobody_frozen uncleared
+    ∷ acted (Ok (pe 1)) (Release Mmio) nobody_frozen (true ∷ false ∷ false ∷ [])
+    ∷ acted (Ok (pe 1)) (Release Dma) nobody_frozen (false ∷ true ∷ false ∷ [])
+    ∷ acted (Ok (pe 1)) (Release Record) nobody_frozen (false ∷ false ∷ true ∷ [])
+    ∷ acted (Ok (pe 0)) (Release Mmio) nobody_frozen uncleared
     -- what is neither, and what is nobody's
-    ∷ acted (Of (pe 1)) Keep nobody_frozen uncleared
-    ∷ acted (Of (pe 1)) (Interrupt 0 1 2) nobody_frozen uncleared
-    ∷ acted (Of (pe 1)) (Fence true) nobody_frozen uncleared
-    ∷ acted (Nobody BadFirmware) (Fence false) nobody_frozen uncleared
-    ∷ acted (Nobody BadFirmware) (Freeze own8 true) nobody_frozen uncleared
-    ∷ acted (Nobody BadFirmware) (Release Mmio) nobody_frozen uncleared
+    ∷ acted (Ok (pe 1)) Keep nobody_frozen uncleared
+    ∷ acted (Ok (pe 1)) (Interrupt 0 1 2) nobody_frozen uncleared
+    ∷ acted (Ok (pe 1)) (Fence true) nobody_frozen uncleared
+    ∷ acted (Err BadFirmware) (Fence false) nobody_frozen uncleared
+    ∷ acted (Err BadFirmware) (Freeze own8 true) nobody_frozen uncleared
+    ∷ acted (Err BadFirmware) (Release Mmio) nobody_frozen uncleared
     ∷ []
 
 pub acts_hold : map (λ a. acted a.step.owner a.step.effect (map (λ k. freeze_of two (pe k) a.step) (0 ∷ 1 ∷ 2 ∷ [])) (map (λ c. clears c (pe 1) a.step) (Mmio ∷ Dma ∷ Record ∷ []))) acts ≡ acts

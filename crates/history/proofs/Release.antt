@@ -4,14 +4,13 @@
 --     history-both, left_both     lists one after another are one list
 --     released-after      after the release the words that a next request leaves the PE are those too that it would leave if no PE had been frozen
 -- Assumes nothing.
-use Rattle.std.specs.Prelude.{◌≡◌, refl, Bool, true, false, List, [], ◌∷◌, ◌++◌, ℕ, ◌*◌, ◌<◌, ◌≤◌, length}
+use Rattle.kinds.specs.Lookup.{Owner}
+use Rattle.std.specs.Prelude.{◌≡◌, refl, Bool, true, false, List, [], ◌∷◌, ◌++◌, ℕ, ◌*◌, ◌<◌, ◌≤◌, length, Ok, Err}
 use Rattle.std.proofs.Common.{sym, ap, ◌∙◌, arith, eqb-true, eq-eqb}
 use Rattle.std.proofs.Math.Option.{Option, none, some}
 use Rattle.kinds.specs.Tests.{given}
 use Rattle.kinds.proofs.Tests.{by_cases, clash, all_true}
 use Rattle.kinds.specs.Words.{at}
-use Rattle.kinds.specs.declared.lookup.Owner.{Owner}
-use Rattle.kinds.specs.declared.lookup.Owner.TheVariants.{Of, Nobody}
 use Rattle.kinds.specs.declared.number.PeNumber.{PeNumber}
 use Rattle.kinds.specs.declared.outcome.Effect.TheVariants.{Keep}
 use Rattle.kinds.specs.declared.outcome.ErrorRecord.{ErrorRecord}
@@ -101,12 +100,12 @@ module _ (a : Bridge) (bad : sized a.tables.sizes (bridge_lengths a) ≡ false) 
 
 -- no effect is no freeze and no clear
 pub keeps-unfrozen : (f : Tables) (k : PeNumber) (o : Owner) → freeze_by f k o Keep ≡ none
-keeps-unfrozen f k (Of p) = refl
-keeps-unfrozen f k (Nobody r) = refl
+keeps-unfrozen f k (Ok p) = refl
+keeps-unfrozen f k (Err r) = refl
 
 pub keeps-uncleared : (c : Part) (k : PeNumber) (o : Owner) → clear_by c k o Keep ≡ false
-keeps-uncleared c k (Of p) = refl
-keeps-uncleared c k (Nobody r) = refl
+keeps-uncleared c k (Ok p) = refl
+keeps-uncleared c k (Err r) = refl
 
 -- a PE after a list: where reason 1 does not hold by the steps, where it holds nothing was frozen or cleared
 module _ (a : Bridge) (zeros : Zeros a.live) (k : PeNumber) (low : k.0 < a.tables.sizes.pes) where
@@ -145,7 +144,7 @@ module _ (a : Bridge) (zeros : Zeros a.live) (k : PeNumber) (low : k.0 < a.table
     released-same : Same (only k) a.tables.sizes (left (ran a l) r) (unfrozen a.tables.sizes.pes (left (ran a l) r))
     released-same = unfrozen-same a.tables (left (ran a l) r) k low released-words.0 released-words.1
 
-    module _ (q : Request) (o : owner a.tables (left (ran a l) r) q ≡ Of k) where
+    module _ (q : Request) (o : owner a.tables (left (ran a l) r) q ≡ Ok k) where
       own-only : belongs (only k) a.tables (left (ran a l) r) q ≡ true
       own-only = ap (owned (only k)) o ∙ eq-eqb k.0 k.0 refl
 

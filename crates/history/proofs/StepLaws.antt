@@ -3,7 +3,8 @@
 --     empty-at            each word of an empty record is 0
 --     did-words           THE LAW: what a step makes of them, if the state has the words of all PEs
 -- Assumes nothing.
-use Rattle.std.specs.Prelude.{◌≡◌, Bool, true, cond, ◌&&◌, ◌||◌, List, ℕ, zero, suc, ◌+◌, ◌-◌, ◌*◌, ◌/◌, ◌%◌, ◌<◌, ◌≤◌, ltb, eqb, length, set}
+use Rattle.kinds.specs.Lookup.{Owner}
+use Rattle.std.specs.Prelude.{◌≡◌, Bool, true, cond, ◌&&◌, ◌||◌, List, ℕ, zero, suc, ◌+◌, ◌-◌, ◌*◌, ◌/◌, ◌%◌, ◌<◌, ◌≤◌, ltb, eqb, length, set, Ok, Err}
 use Rattle.std.proofs.Math.Path.{refl, ap}
 use Rattle.std.proofs.Common.{sym, ◌∙◌, get_or-set_same, get_or-set_other}
 use Rattle.std.proofs.Math.Bool.{false}
@@ -17,8 +18,6 @@ use Rattle.kinds.specs.Words.{at, bit_of}
 use Rattle.kinds.proofs.WordsLaws.{at_out, at_set, at-map_at}
 use Rattle.kinds.specs.declared.answer.Reason.{Reason}
 use Rattle.kinds.specs.declared.answer.Reason.TheVariants.{TableLength, BadRequest, UnknownRequester, DmaStopped, AddressClass, BadEntry, OutsideWindow, TableWord, MsiRefused, NoWindow, MmioStopped, ErrorMessage, FrozenAsPeer, BadFirmware, OutsideMemory, AboveInstalled, Fenced}
-use Rattle.kinds.specs.declared.lookup.Owner.{Owner}
-use Rattle.kinds.specs.declared.lookup.Owner.TheVariants.{Of, Nobody}
 use Rattle.kinds.specs.declared.number.PeNumber.{PeNumber}
 use Rattle.kinds.specs.declared.outcome.Effect.{Effect}
 use Rattle.kinds.specs.declared.outcome.Effect.TheVariants.{Keep, Freeze, Release, Interrupt, Fence}
@@ -151,7 +150,7 @@ module _ (f : Tables) (k : PeNumber) (low : k.0 < f.sizes.pes) where
     words-chosen m e y false false h = rw (or_else_none x) (words-kept k w m h)
 
     words-frozen : (p : PeNumber) (e : ErrorRecord) (peers : Bool)
-        → After (record { owner = Of p; effect = Freeze e peers }) (froze f.sizes.pes (taken peers f.peers p) p e l) a b x
+        → After (record { owner = Ok p; effect = Freeze e peers }) (froze f.sizes.pes (taken peers f.peers p) p e l) a b x
     words-frozen p e peers =
         words-chosen (froze f.sizes.pes (taken peers f.peers p) p e l) e (as_peer p) (eqb k.0 p.0) (peers && listed f p k)
         (λ i h. froze-word (taken peers f.peers p) p e i h ∙ rw (taken-listed peers p))
@@ -176,7 +175,7 @@ module _ (f : Tables) (k : PeNumber) (low : k.0 < f.sizes.pes) where
           ∙ sym (empty-at j);
     }
 
-    own-cleared : (c : Part) → After (record { owner = Of k; effect = Release c }) (released c k l) a b x
+    own-cleared : (c : Part) → After (record { owner = Ok k; effect = Release c }) (released c k l) a b x
     unfolding released
     own-cleared Mmio =
         rw (eq-eqb k.0 k.0 refl, or_else_none x) (own-stop (at l (stop_word k) / 2 * 2) false b (rw w.stop (mmio_cleared a b)))
@@ -191,7 +190,7 @@ module _ (f : Tables) (k : PeNumber) (low : k.0 < f.sizes.pes) where
     words-fenced c =
         words-kept k w (fence_to f.sizes.pes c s.state) (λ i h. fence-other f.sizes.pes c s.state i (λ e. omega arith))
 
-    words-cleared : (c : Part) (p : PeNumber) → After (record { owner = Of p; effect = Release c }) (released c p s.state) a b x
+    words-cleared : (c : Part) (p : PeNumber) → After (record { owner = Ok p; effect = Release c }) (released c p s.state) a b x
     unfolding act
     words-cleared c p =
         by_cases (eqb k.0 p.0)
@@ -199,7 +198,7 @@ module _ (f : Tables) (k : PeNumber) (low : k.0 < f.sizes.pes) where
         (λ o. rw (o, or_else_none x)
         (words-kept k w (released c p s.state) (λ i h. act-others f.sizes.pes f.peers p s i (λ z. eqb-false k.0 p.0 o (sym h ∙ z)) (Release c) refl)))
 
-    act-words : (p : PeNumber) (e : Effect) → After (record { owner = Of p; effect = e }) (act f.sizes.pes f.peers p e s).state a b x
+    act-words : (p : PeNumber) (e : Effect) → After (record { owner = Ok p; effect = e }) (act f.sizes.pes f.peers p e s).state a b x
     unfolding act whole
     act-words p Keep = rw (or_else_none x) w
     act-words p (Freeze e peers) = words-frozen s.state long w p e peers
@@ -207,7 +206,7 @@ module _ (f : Tables) (k : PeNumber) (low : k.0 < f.sizes.pes) where
     act-words p (Interrupt i n y) = rw (or_else_none x) w
     act-words p (Fence y) = rw (or_else_none x) (words-fenced y)
 
-    whole_words : (r : Reason) (e : Effect) → After (record { owner = Nobody r; effect = e }) (whole f.sizes.pes e s).state a b x
+    whole_words : (r : Reason) (e : Effect) → After (record { owner = Err r; effect = e }) (whole f.sizes.pes e s).state a b x
     unfolding whole
     whole_words r Keep = rw (or_else_none x) w
     whole_words r (Freeze e peers) = rw (or_else_none x) w
@@ -217,8 +216,8 @@ module _ (f : Tables) (k : PeNumber) (low : k.0 < f.sizes.pes) where
 
     acted-words : (o : Owner) (e : Effect) → After (record { owner = o; effect = e }) (act_by f o e s).state a b x
     unfolding act_by
-    acted-words (Of p) e = act-words p e
-    acted-words (Nobody r) e = whole_words r e
+    acted-words (Ok p) e = act-words p e
+    acted-words (Err r) e = whole_words r e
 
     pub did-words : (d : Step) → After d (did f d s).state a b x
     did-words d = acted-words d.owner d.effect

@@ -3,22 +3,19 @@
 --     told-freeze, told-clear     it is a freeze of the same PEs with the same records, and a clear of the same parts
 --     told-stop, told_record      so stop word and record by the history are those that are told from the answers
 -- Assumes nothing.
-use Rattle.std.specs.Prelude.{◌≡◌, Bool, false, not, ◌&&◌, List, [], ◌∷◌, ℕ, ◌%◌, ltb, eqb, length}
+use Rattle.kinds.specs.Lookup.{Owner, Found, Translated}
+use Rattle.std.specs.Prelude.{◌≡◌, Bool, false, not, ◌&&◌, List, [], ◌∷◌, ℕ, ◌%◌, ltb, eqb, length, Ok, Err}
 use Rattle.std.proofs.Math.Path.{refl, sym}
 use Rattle.std.proofs.Common.{ap, ◌∙◌}
 use Rattle.std.proofs.Math.Option.{none}
-use Rattle.kinds.specs.Checked.{Checked, Kept}
+use Rattle.kinds.specs.declared.outcome.Check.{Check}
+use Rattle.kinds.specs.declared.outcome.Check.TheVariants.{Kept}
 use Rattle.kinds.specs.Outcome.{refused}
 use Rattle.kinds.proofs.Tests.{cond_cases}
 use Rattle.kinds.specs.Words.{at}
 use Rattle.kinds.specs.declared.answer.Answer.{Answer}
 use Rattle.kinds.specs.declared.answer.Reason.{Reason}
 use Rattle.kinds.specs.declared.answer.Reason.TheVariants.{TableLength, BadRequest}
-use Rattle.kinds.specs.declared.lookup.Found.{Found}
-use Rattle.kinds.specs.declared.lookup.Owner.{Owner}
-use Rattle.kinds.specs.declared.lookup.Owner.TheVariants.{Of, Nobody}
-use Rattle.kinds.specs.declared.lookup.Translated.{Translated}
-use Rattle.kinds.specs.declared.lookup.Translated.TheVariants.{To, Fault}
 use Rattle.kinds.specs.declared.number.ByteAddress.{ByteAddress}
 use Rattle.kinds.specs.declared.number.PageSize.{PageSize}
 use Rattle.kinds.specs.declared.number.PeNumber.{PeNumber}
@@ -77,13 +74,13 @@ unwalked-freezing = unwalked-cases Freezing (λ a. tt) refl refl
 
 last_test-freezing : (i n : ℕ) (t : Translated) → Freezing t → Freezing (last_test i n t)
 unfolding last_test
-last_test-freezing i n (To x) h = cond_cases Freezing (installed_to i x n) tt refl
-last_test-freezing i n (Fault r w) h = h
+last_test-freezing i n (Ok x) h = cond_cases Freezing (installed_to i x n) tt refl
+last_test-freezing i n (Err e) h = h
 
 outcome_fits : (p : PeNumber) (q : DmaRequest) (t : Translated) (n : ℕ) → Freezing t → Fits (Dma q) (outcome_of p q.address t n)
 unfolding outcome_of
-outcome_fits p q (To x) n h = refl
-outcome_fits p q (Fault r w) n h = rw h
+outcome_fits p q (Ok x) n h = refl
+outcome_fits p q (Err e) n h = rw h
 
 -- ---- MSIs and interrupts
 
@@ -108,7 +105,7 @@ prioritized-idle i n e = cond_cases Idle (eqb e.priority holding && not (eqb n h
 -- ---- every request
 
 module _ (f : Tables) (m : List ℕ) (s : Live) where
-  abbrev Ends : Request → Checked → Type 0
+  abbrev Ends : Request → Check → Type 0
   Ends q x = Fits q (finish f.installed m x)
 
   entry-ends : (e : TranslationEntry) (p : PeNumber) (q : DmaRequest) → Ends (Dma q) (by_entry f.installed e p q)
@@ -128,7 +125,7 @@ module _ (f : Tables) (m : List ℕ) (s : Live) where
   served-ends class.Msi64 p q = msi-fits q f.sizes.interrupts s.interrupts p _ _
   served-ends class.Unserved p q = refl
 
-  abbrev ask_on : PeNumber → Request → Checked
+  abbrev ask_on : PeNumber → Request → Check
   ask_on p q = ask f.sizes f.installed f.requesters f.entries f.windows f.segments s p q
 
   ask-ends : (p : PeNumber) (q : Request) → Ends q (ask_on p q)
@@ -172,8 +169,8 @@ module _ (f : Tables) (m : List ℕ) (s : Live) where
 
   asked-ends : (q : Request) (o : Owner) → Spares o → Ends q (asked f.sizes f.installed f.requesters f.entries f.windows f.segments s q o)
   unfolding asked
-  asked-ends q (Of p) h = ask-ends p q
-  asked-ends q (Nobody r) h = unowned-ends q r h
+  asked-ends q (Ok p) h = ask-ends p q
+  asked-ends q (Err r) h = unowned-ends q r h
 
   pub decided-told : (q : Request) → lasting (decided f m s q).effect ≡ told_effect q (answered f m s q)
   unfolding checked finish
@@ -202,20 +199,20 @@ module _ {X : Type 0} (g : Owner → Effect → X) (x : X) (idle : (o : Owner) �
 
 module _ (f : Tables) (k : PeNumber) where
   lasting-freeze : (o : Owner) (x : Effect) → freeze_by f k o x ≡ freeze_by f k o (lasting x)
-  lasting-freeze (Of p) Keep = refl
-  lasting-freeze (Of p) (Freeze e b) = refl
-  lasting-freeze (Of p) (Release c) = refl
-  lasting-freeze (Of p) (Interrupt i n b) = refl
-  lasting-freeze (Of p) (Fence b) = refl
-  lasting-freeze (Nobody r) x = refl
+  lasting-freeze (Ok p) Keep = refl
+  lasting-freeze (Ok p) (Freeze e b) = refl
+  lasting-freeze (Ok p) (Release c) = refl
+  lasting-freeze (Ok p) (Interrupt i n b) = refl
+  lasting-freeze (Ok p) (Fence b) = refl
+  lasting-freeze (Err r) x = refl
 
   lasting-clear : (c : Part) (o : Owner) (x : Effect) → clear_by c k o x ≡ clear_by c k o (lasting x)
-  lasting-clear c (Of p) Keep = refl
-  lasting-clear c (Of p) (Freeze e b) = refl
-  lasting-clear c (Of p) (Release d) = refl
-  lasting-clear c (Of p) (Interrupt i n b) = refl
-  lasting-clear c (Of p) (Fence b) = refl
-  lasting-clear c (Nobody r) x = refl
+  lasting-clear c (Ok p) Keep = refl
+  lasting-clear c (Ok p) (Freeze e b) = refl
+  lasting-clear c (Ok p) (Release d) = refl
+  lasting-clear c (Ok p) (Interrupt i n b) = refl
+  lasting-clear c (Ok p) (Fence b) = refl
+  lasting-clear c (Err r) x = refl
 
   pub told-freeze : (m : List ℕ) (s : Live) (q : Request) → freeze_of f k (step_of f m s q) ≡ freeze_of f k (told_step f q (answered f m s q))
   told-freeze m s q =

@@ -20,12 +20,11 @@
 --     Zeros s             every word of the state is 0
 --     unfrozen n s        s with 0 in all words of n PEs: the fence word and interrupts are as they are
 -- Assumes nothing.
-use Rattle.std.specs.Prelude.{◌≡◌, Bool, true, false, cond, not, ◌&&◌, ◌||◌, List, [], ◌∷◌, ℕ, ◌+◌, ltb, eqb}
+use Rattle.kinds.specs.Lookup.{Owner}
+use Rattle.std.specs.Prelude.{◌≡◌, Bool, true, false, cond, not, ◌&&◌, ◌||◌, List, [], ◌∷◌, ℕ, ◌+◌, ltb, eqb, Ok, Err}
 use Rattle.std.proofs.Math.Option.{Option, none, some}
 use Rattle.kinds.specs.Tests.{given, all}
 use Rattle.kinds.specs.Words.{at, map_at, bit_of}
-use Rattle.kinds.specs.declared.lookup.Owner.{Owner}
-use Rattle.kinds.specs.declared.lookup.Owner.TheVariants.{Of, Nobody}
 use Rattle.kinds.specs.declared.number.PeNumber.{PeNumber}
 use Rattle.kinds.specs.declared.outcome.Effect.{Effect}
 use Rattle.kinds.specs.declared.outcome.Effect.TheVariants.{Keep, Freeze, Release, Interrupt, Fence}
@@ -76,8 +75,8 @@ freeze_at f k p (Interrupt i n b) = none
 freeze_at f k p (Fence b) = none
 
 abbrev pub freeze_by : Tables → PeNumber → Owner → Effect → Option ErrorRecord
-freeze_by f k (Of p) x = freeze_at f k p x
-freeze_by f k (Nobody r) x = none
+freeze_by f k (Ok p) x = freeze_at f k p x
+freeze_by f k (Err r) x = none
 
 abbrev pub freeze_of : Tables → PeNumber → Step → Option ErrorRecord
 freeze_of f k d = freeze_by f k d.owner d.effect
@@ -105,8 +104,8 @@ clear_at c k p (Interrupt i n b) = false
 clear_at c k p (Fence b) = false
 
 abbrev pub clear_by : Part → PeNumber → Owner → Effect → Bool
-clear_by c k (Of p) x = clear_at c k p x
-clear_by c k (Nobody r) x = false
+clear_by c k (Ok p) x = clear_at c k p x
+clear_by c k (Err r) x = false
 
 abbrev pub clears : Part → PeNumber → Step → Bool
 clears c k d = clear_by c k d.owner d.effect

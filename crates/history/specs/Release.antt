@@ -2,10 +2,9 @@
 --     StepsReleased       THE CLAIM of any steps, for every machine whose requests do such steps
 --     Released            THE CLAIM of [14], as a type that a promise can cite: of any list of requests
 -- The theorems are in proofs/Release.antt. Assumes nothing.
-use Rattle.std.specs.Prelude.{◌≡◌, true, List, ◌++◌, ◌*◌, ◌<◌, ◌≤◌, length}
+use Rattle.std.specs.Prelude.{◌≡◌, true, List, ◌++◌, ◌*◌, ◌<◌, ◌≤◌, length, Ok}
 use Rattle.std.proofs.Math.Option.{none}
 use Rattle.kinds.specs.Words.{at}
-use Rattle.kinds.specs.declared.lookup.Owner.TheVariants.{Of}
 use Rattle.kinds.specs.declared.number.PeNumber.{PeNumber}
 use Rattle.kinds.specs.declared.request.Request.{Request}
 use Rattle.profile.specs.Tables.{Tables, Live, state_words}
@@ -39,5 +38,5 @@ pub record Released : Type 0 where
       -- after l, all three clears of it, and no freeze of it since the first of them
       → cleared a.tables k (history (ran a l) r) ≡ true
       -- its next request is answered as if no PE had been frozen, over the other tables and the fence as they are then
-      → (q : Request) → owner a.tables (left (ran a l) r) q ≡ Of k
+      → (q : Request) → owner a.tables (left (ran a l) r) q ≡ Ok k
       → answered a.tables a.memory (left (ran a l) r) q ≡ answered a.tables a.memory (unfrozen a.tables.sizes.pes (left (ran a l) r)) q

@@ -4,17 +4,14 @@
 --     lasting x           of effect x what changes stop bits and records
 --     told_step f q a     the step that they tell, with the owner by N and the requesters (public_owner); told_history a l: those of a list
 -- The theorems are in proofs/Told.antt. Assumes nothing.
-use Rattle.std.specs.Prelude.{◌≡◌, Bool, true, false, cond, ◌&&◌, ◌||◌, List, [], leb, eqb}
+use Rattle.kinds.specs.Lookup.{Owner, Translated}
+use Rattle.std.specs.Prelude.{◌≡◌, Bool, true, false, cond, ◌&&◌, ◌||◌, List, [], leb, eqb, Ok, Err}
 use Rattle.kinds.specs.Answer.{reason_number, is_done}
 use Rattle.kinds.specs.Number.{no_word}
 use Rattle.kinds.specs.declared.answer.Answer.{Answer}
 use Rattle.kinds.specs.declared.answer.Answer.TheVariants.{Pass, Msi, Held, Ones, Drop, Refuse, Done}
 use Rattle.kinds.specs.declared.answer.Reason.{Reason}
 use Rattle.kinds.specs.declared.answer.Reason.TheVariants.{ErrorMessage}
-use Rattle.kinds.specs.declared.lookup.Owner.{Owner}
-use Rattle.kinds.specs.declared.lookup.Owner.TheVariants.{Of, Nobody}
-use Rattle.kinds.specs.declared.lookup.Translated.{Translated}
-use Rattle.kinds.specs.declared.lookup.Translated.TheVariants.{To, Fault}
 use Rattle.kinds.specs.declared.number.ByteAddress.{ByteAddress}
 use Rattle.kinds.specs.declared.outcome.Effect.{Effect}
 use Rattle.kinds.specs.declared.outcome.Effect.TheVariants.{Keep, Freeze, Release, Interrupt, Fence}
@@ -65,14 +62,14 @@ Fits q o = lasting o.effect ≡ told_effect q o.answer
 
 -- the reason that nobody gets
 abbrev pub Spares : Owner → Type 0
-Spares (Of p) = Unit {0}
-Spares (Nobody r) = freezing r ≡ false
+Spares (Ok p) = Unit {0}
+Spares (Err r) = freezing r ≡ false
 
 -- ---- faults of a translation, which freeze
 
 abbrev pub Freezing : Translated → Type 0
-Freezing (To x) = Unit {0}
-Freezing (Fault r w) = freezing r ≡ true
+Freezing (Ok x) = Unit {0}
+Freezing (Err e) = freezing e.reason ≡ true
 
 -- an outcome that freezes and clears nobody
 abbrev pub Idle : Outcome → Type 0

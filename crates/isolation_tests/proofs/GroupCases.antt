@@ -3,9 +3,8 @@
 --     owners_hold         PE 255 is 255, nobody is 65,536
 --     owners n, operations_hold   an invalidate of PE 3 of 4, by PE and by address, is PE 3's; one of PE 4, one for all and an edit are nobody's, and so is all with 257 PEs
 -- Assumes nothing.
-use Rattle.std.specs.Prelude.{◌≡◌, refl, true, false, List, [], ◌∷◌, map, ℕ}
+use Rattle.std.specs.Prelude.{◌≡◌, refl, true, false, List, [], ◌∷◌, map, ℕ, Ok, Err}
 use Rattle.kinds.specs.declared.answer.Reason.TheVariants.{BadFirmware}
-use Rattle.kinds.specs.declared.lookup.Owner.TheVariants.{Of, Nobody}
 use Rattle.kinds.specs.declared.request.Operation.TheVariants.{Edit, Invalidate}
 use Rattle.kinds.specs.declared.request.Scope.TheVariants.{All, Pe, Address}
 use Rattle.profile.specs.Tables.{named}
@@ -15,7 +14,7 @@ pub flags_hold : (flag true ∷ flag false ∷ []) ≡ 1 ∷ 0 ∷ []
 unfolding flag
 flags_hold = refl
 
-pub owners_hold : (owner_number (Of (record { 0 = 255 })) ∷ owner_number (Nobody BadFirmware) ∷ []) ≡ 255 ∷ 65536 ∷ []
+pub owners_hold : (owner_number (Ok (record { 0 = 255 })) ∷ owner_number (Err BadFirmware) ∷ []) ≡ 255 ∷ 65536 ∷ []
 unfolding owner_number
 owners_hold = refl
 

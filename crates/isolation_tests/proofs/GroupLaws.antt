@@ -5,12 +5,11 @@
 --                         on the bridge with a translation cache
 --     closed_is           THE STATEMENT: the test of closedness gives the premise; is-closed: and the premise gives the test
 -- Assumes nothing.
-use Rattle.std.specs.Prelude.{◌≡◌, refl, Bool, true, false, List, ℕ, ◌<◌, ◌≤◌, leb}
+use Rattle.kinds.specs.Lookup.{Owner}
+use Rattle.std.specs.Prelude.{◌≡◌, refl, Bool, true, false, List, ℕ, ◌<◌, ◌≤◌, leb, Ok, Err}
 use Rattle.std.proofs.Common.{arith, le-leb}
 use Rattle.kinds.proofs.Tests.{by_cases, clash, not_true}
 use Rattle.kinds.specs.Words.{bit_of}
-use Rattle.kinds.specs.declared.lookup.Owner.{Owner}
-use Rattle.kinds.specs.declared.lookup.Owner.TheVariants.{Of, Nobody}
 use Rattle.kinds.specs.declared.number.PeNumber.{PeNumber}
 use Rattle.kinds.specs.declared.request.Operation.{Operation}
 use Rattle.kinds.specs.declared.request.Operation.TheVariants.{Plain, Edit, Invalidate}
@@ -37,8 +36,8 @@ owner-told f s q h = rw (le-leb _ _ h)
 
 pub owned-member : (g : List ℕ) (o : Owner) → owned (group g) o ≡ member_of g (owner_number o)
 unfolding owner_number member_of
-owned-member g (Of p) = refl
-owned-member g (Nobody r) = refl
+owned-member g (Ok p) = refl
+owned-member g (Err r) = refl
 
 unfoldable pub is_edit : Operation → Bool
 is_edit (Plain q) = false

@@ -1,4 +1,6 @@
 -- What the functions of `isolation_tests` are proved from, a law to a `return` or a turn. Assumes nothing.
+use Rattle.kinds.specs.Lookup.{Owner}
+use Rattle.std.specs.Prelude.{Ok, Err}
 use mathlib.Core.Path.{◌≡◌, ◌∙◌}
 use mathlib.Core.Bool.{Bool, true, false}
 use mathlib.Core.List.{List}
@@ -9,8 +11,6 @@ use borrow.Author.Tests.{lt-leb, le-leb, eq-eqb, ne_eqb}
 use Rattle.kinds.proofs.Tests.{clash}
 use Rattle.kinds.specs.Words.{no_pe, pe_at, bit_of}
 use Rattle.kinds.specs.declared.answer.Reason.{Reason}
-use Rattle.kinds.specs.declared.lookup.Owner.{Owner}
-use Rattle.kinds.specs.declared.lookup.Owner.TheVariants.{Of, Nobody}
 use Rattle.kinds.specs.declared.number.PeNumber.{PeNumber}
 use Rattle.kinds.specs.declared.record.Sizes.{Sizes}
 use Rattle.kinds.specs.declared.request.Operation.{Operation}
@@ -43,11 +43,11 @@ flag_is e h = rw (← e) h
 
 -- ---- owners
 
-pub owner_of_pe : {o : Owner} {p : PeNumber} → o ≡ Of p → p.0 ≡ owner_number o
+pub owner_of_pe : {o : Owner} {p : PeNumber} → o ≡ Ok p → p.0 ≡ owner_number o
 unfolding owner_number
 owner_of_pe e = rw e
 
-pub owner-nobody : {o : Owner} {r : Reason} → o ≡ Nobody r → no_pe ≡ owner_number o
+pub owner-nobody : {o : Owner} {r : Reason} → o ≡ Err r → no_pe ≡ owner_number o
 unfolding owner_number
 owner-nobody e = rw e
 

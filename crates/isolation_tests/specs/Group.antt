@@ -8,10 +8,9 @@
 --                             first n PEs does
 --     closed n g l        no PE below n outside the group lists a member below n; n being N, and at most its limit
 -- Assumes nothing.
-use Rattle.std.specs.Prelude.{Bool, true, false, cond, not, List, ℕ, leb}
+use Rattle.kinds.specs.Lookup.{Owner}
+use Rattle.std.specs.Prelude.{Bool, true, false, cond, not, List, ℕ, leb, Ok, Err}
 use Rattle.kinds.specs.Words.{no_pe, bit_of}
-use Rattle.kinds.specs.declared.lookup.Owner.{Owner}
-use Rattle.kinds.specs.declared.lookup.Owner.TheVariants.{Of, Nobody}
 use Rattle.kinds.specs.declared.record.Sizes.{Sizes}
 use Rattle.kinds.specs.declared.request.Operation.{Operation}
 use Rattle.kinds.specs.declared.request.Operation.TheVariants.{Plain, Edit, Invalidate}
@@ -28,8 +27,8 @@ flag true = 1
 flag false = 0
 
 unfoldable pub owner_number : Owner → ℕ
-owner_number (Of p) = p.0
-owner_number (Nobody r) = no_pe
+owner_number (Ok p) = p.0
+owner_number (Err r) = no_pe
 
 unfoldable pub owner_number_in : Sizes → (requesters windows segments interrupts : List ℕ) → Request → ℕ
 owner_number_in z r w s l q = cond (leb z.pes most_pes) (owner_number (owner_in z r w s l q)) no_pe

@@ -1,6 +1,7 @@
 pub mod Answer
-pub mod Checked
+pub mod Codes
 pub mod Has
+pub mod Lookup
 pub mod Number
 pub mod Outcome
 pub mod Tests

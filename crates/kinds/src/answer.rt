@@ -4,31 +4,31 @@ ghost use Rattle.kinds.specs.Answer.{reason_number, numbered};
 
 use crate::number::{ByteAddress, PeNumber};
 
-// Why a request is refused or a PE is frozen; `reason_number` gives the number of each.
-#[derive(Clone, Copy)]
+// Why a request is refused or a PE is frozen, with its number in the table of answers.
+#[derive(Clone, Copy, Debug, PartialEq, Eq)]
 pub enum Reason {
-    TableLength,
-    BadRequest,
-    UnknownRequester,
-    DmaStopped,
-    AddressClass,
-    BadEntry,
-    OutsideWindow,
-    TableWord,
-    MsiRefused,
-    NoWindow,
-    MmioStopped,
-    ErrorMessage,
-    FrozenAsPeer,
-    BadFirmware,
-    OutsideMemory,
-    AboveInstalled,
-    Fenced,
+    TableLength = 1,
+    BadRequest = 2,
+    UnknownRequester = 3,
+    DmaStopped = 4,
+    AddressClass = 5,
+    BadEntry = 6,
+    OutsideWindow = 7,
+    TableWord = 8,
+    MsiRefused = 9,
+    NoWindow = 10,
+    MmioStopped = 11,
+    ErrorMessage = 12,
+    FrozenAsPeer = 13,
+    BadFirmware = 14,
+    OutsideMemory = 15,
+    AboveInstalled = 17,
+    Fenced = 18,
 }
 
 // `Ones` and `Drop` are a load and a store that a stop bit or the fence keeps from the device, by their reason. A refusal has the count of table words
 // read, and the address of the table word that failed, 0 where none did.
-#[derive(Clone, Copy)]
+#[derive(Clone, Copy, Debug, PartialEq, Eq)]
 pub enum Answer {
     Pass {
         address: ByteAddress,
@@ -59,7 +59,7 @@ pub enum Answer {
 }
 
 // An answer as numbers. `name` is 0 pass, 1 msi, 2 held, 3 ones, 4 drop, 5 refuse, 6 done.
-#[derive(Clone, Copy)]
+#[derive(Clone, Copy, Debug, PartialEq, Eq)]
 pub struct Numbers {
     pub name: u64,
     pub reason: u64,
@@ -71,36 +71,10 @@ pub struct Numbers {
     pub word: u64,
 }
 
-// The reasons in the order of their numbers, counted from 1. No reason has number 16, so from there on a number is one more.
-fn reason_place(reason: Reason) -> u64
-    ensures { (result ≤ 17) × (result + result / 16 ≡ reason_number reason) }
-{
-    match reason {
-        Reason::TableLength => 1,
-        Reason::BadRequest => 2,
-        Reason::UnknownRequester => 3,
-        Reason::DmaStopped => 4,
-        Reason::AddressClass => 5,
-        Reason::BadEntry => 6,
-        Reason::OutsideWindow => 7,
-        Reason::TableWord => 8,
-        Reason::MsiRefused => 9,
-        Reason::NoWindow => 10,
-        Reason::MmioStopped => 11,
-        Reason::ErrorMessage => 12,
-        Reason::FrozenAsPeer => 13,
-        Reason::BadFirmware => 14,
-        Reason::OutsideMemory => 15,
-        Reason::AboveInstalled => 16,
-        Reason::Fenced => 17,
-    }
-}
-
 pub fn reason_number(reason: Reason) -> u64
     ensures { result ≡ reason_number reason }
 {
-    let place = reason_place(reason);
-    place + place / 16
+    reason as u64
 }
 
 pub fn in_numbers(answer: Answer) -> Numbers

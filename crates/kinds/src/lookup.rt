@@ -1,34 +1,32 @@
-// What is found in the tables before a request is answered.
+// What is found in the tables before a request is answered. The PE that a request belongs to is a `Result<PeNumber, Reason>`: nobody's has the refusal that
+// it then gets. The window of an address is an `Option<Hit>`, what a walk ends in a `Result<Frame, WalkError>`, a translation a `Result<ByteAddress, Fault>`.
 use crate::answer::Reason;
-use crate::number::{ByteAddress, PeNumber};
-
-// The PE that a request belongs to, or nobody with the refusal that it then gets.
-#[derive(Clone, Copy)]
-pub enum Owner {
-    Of(PeNumber),
-    Nobody(Reason),
-}
+use crate::number::ByteAddress;
 
 // The first open window that covers an address: the number that it gives as its PE, below N or not, and the PCI address.
-#[derive(Clone, Copy)]
-pub enum Hit {
-    At { pe: u64, pci: ByteAddress },
-    Miss,
+#[derive(Clone, Copy, Debug, PartialEq, Eq)]
+pub struct Hit {
+    pub pe: u64,
+    pub pci: ByteAddress,
 }
 
-// What a walk ends in: the address and the content of the last table word, or the address of the word that stopped it, which forbids or is outside
-// memory.
-#[derive(Clone, Copy)]
-pub enum Found {
-    Frame { word: ByteAddress, content: u64 },
+// The last table word of a walk: its address and its content.
+#[derive(Clone, Copy, Debug, PartialEq, Eq)]
+pub struct Frame {
+    pub word: ByteAddress,
+    pub content: u64,
+}
+
+// Why a walk has no last table word: the word at this address forbids, or is outside memory.
+#[derive(Clone, Copy, Debug, PartialEq, Eq)]
+pub enum WalkError {
     Forbidden { word: ByteAddress },
     Outside { word: ByteAddress },
 }
 
-// What a translation gives: the system address, or a fault with its reason and the address of the table word that it stopped at, 0 where no word
-// was asked for.
-#[derive(Clone, Copy)]
-pub enum Translated {
-    To(ByteAddress),
-    Fault { reason: Reason, word: ByteAddress },
+// Why there is no system address: the reason, and the address of the table word that failed, 0 where no word was asked for.
+#[derive(Clone, Copy, Debug, PartialEq, Eq)]
+pub struct Fault {
+    pub reason: Reason,
+    pub word: ByteAddress,
 }

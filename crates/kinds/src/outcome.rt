@@ -5,14 +5,14 @@ use crate::record::TranslationEntry;
 use crate::request::{DmaRequest, Part};
 
 // What a freeze writes into an empty error record; `word` is the address of the table word that failed, 0 where none did.
-#[derive(Clone, Copy)]
+#[derive(Clone, Copy, Debug, PartialEq, Eq)]
 pub struct ErrorRecord {
     pub reason: Reason,
     pub value: u64,
     pub word: ByteAddress,
 }
 
-#[derive(Clone, Copy)]
+#[derive(Clone, Copy, Debug, PartialEq, Eq)]
 pub enum Effect {
     Keep,
     // With the PE's peers, or alone.
@@ -35,20 +35,21 @@ pub enum Effect {
     },
 }
 
-#[derive(Clone, Copy)]
+#[derive(Clone, Copy, Debug, PartialEq, Eq)]
 pub struct Outcome {
     pub answer: Answer,
     pub effect: Effect,
 }
 
-// What is known of a request before memory is read: that it is answered and nothing is done (`kept`); its outcome, whose effect is done at `pe` or is
-// the fence's; or that the page table of `entry` of `pe` is walked for `dma` (`walks`). What is not known then is empty.
-#[derive(Clone, Copy)]
-pub struct Check {
-    pub walks: bool,
-    pub kept: bool,
-    pub pe: PeNumber,
-    pub outcome: Outcome,
-    pub entry: TranslationEntry,
-    pub dma: DmaRequest,
+// What is known of a request before memory is read.
+#[derive(Clone, Copy, Debug, PartialEq, Eq)]
+pub enum Check {
+    // It is answered, and nothing is done.
+    Kept(Answer),
+    // Its outcome, whose effect is done at this PE.
+    Ready(PeNumber, Outcome),
+    // The page table of this entry of the PE is walked for the DMA.
+    Walk(PeNumber, TranslationEntry, DmaRequest),
+    // It is done, and the fence bit becomes this.
+    Fences(bool),
 }

@@ -1,7 +1,7 @@
 // The sizes of the lent tables, and their records word by word.
 
 // The numbers that are given with the tables: N, M and R.
-#[derive(Clone, Copy)]
+#[derive(Clone, Copy, Debug, PartialEq, Eq)]
 pub struct Sizes {
     pub pes: u64,
     pub interrupts: u64,
@@ -9,7 +9,7 @@ pub struct Sizes {
 }
 
 // The lengths of the lent tables.
-#[derive(Clone, Copy)]
+#[derive(Clone, Copy, Debug, PartialEq, Eq)]
 pub struct Lengths {
     pub requesters: u64,
     pub entries: u64,
@@ -22,7 +22,7 @@ pub struct Lengths {
 }
 
 // A translation entry. In a bypass, `base` and `levels` are its start and its end.
-#[derive(Clone, Copy)]
+#[derive(Clone, Copy, Debug, PartialEq, Eq)]
 pub struct TranslationEntry {
     pub base: u64,
     pub levels: u64,
@@ -31,7 +31,7 @@ pub struct TranslationEntry {
 }
 
 // An interrupt. `bits` is 2P + Q.
-#[derive(Clone, Copy)]
+#[derive(Clone, Copy, Debug, PartialEq, Eq)]
 pub struct Interrupt {
     pub pe: u64,
     pub server: u64,
@@ -40,7 +40,7 @@ pub struct Interrupt {
 }
 
 // An M64 window.
-#[derive(Clone, Copy)]
+#[derive(Clone, Copy, Debug, PartialEq, Eq)]
 pub struct Window {
     pub base: u64,
     pub size: u64,

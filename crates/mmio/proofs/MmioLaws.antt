@@ -1,6 +1,8 @@
 -- What the functions of `mmio` are proved from. `r` is what a call gave.
 --     access_at ..        a load or store by its hit; ones_narrow ..: all ones of a width
 -- Assumes nothing.
+use Rattle.kinds.specs.Lookup.{Route, hit}
+use Rattle.std.specs.Prelude.{None}
 use mathlib.Core.Path.{◌≡◌}
 use mathlib.Core.Bool.{cond}
 use Prim.Native.Nat.{ℕ, ◌-◌, ◌*◌, ◌%◌, ◌^◌, ◌≤◌, ◌<◌, min}
@@ -9,20 +11,18 @@ use native.Mathlib.Omega.{arith}
 use Rattle.kinds.proofs.Powers.{one_shl, one_shl_pos}
 use Rattle.kinds.specs.declared.answer.Answer.{Answer}
 use Rattle.kinds.specs.declared.answer.Answer.TheVariants.{Pass}
-use Rattle.kinds.specs.declared.lookup.Hit.{Hit}
-use Rattle.kinds.specs.declared.lookup.Hit.TheVariants.{At, Miss}
 use Rattle.kinds.specs.declared.number.ByteAddress.{ByteAddress}
 use Rattle.kinds.specs.declared.number.PeNumber.{PeNumber}
 use Rattle.profile.specs.Freeze.{mmio_stopped}
 use Rattle.profile.specs.Step.{accessed}
 use Rattle.profile.specs.Windows.{ones_of}
 
-module _ {r : Answer} (x : Hit) (q : PeNumber) (w : ℕ) (stopped : Answer) where
-  pub access_at : {n : ℕ} {c : ByteAddress} → x ≡ At n c → r ≡ cond (mmio_stopped w) stopped (Pass c q 0) → r ≡ accessed x q w stopped
+module _ {r : Answer} (x : Route) (q : PeNumber) (w : ℕ) (stopped : Answer) where
+  pub access_at : {n : ℕ} {c : ByteAddress} → x ≡ hit n c → r ≡ cond (mmio_stopped w) stopped (Pass c q 0) → r ≡ accessed x q w stopped
   unfolding accessed
   access_at e h = rw e h
 
-pub access_miss : (x : Hit) (q : PeNumber) (w : ℕ) (stopped : Answer) → x ≡ Miss → stopped ≡ accessed x q w stopped
+pub access_miss : (x : Route) (q : PeNumber) (w : ℕ) (stopped : Answer) → x ≡ None → stopped ≡ accessed x q w stopped
 unfolding accessed
 access_miss x q w stopped e = rw e
 

@@ -6,7 +6,7 @@ ghost use Rattle.kinds.specs.declared.answer.Answer.TheVariants.{Pass};
 ghost use Rattle.profile.specs.Freeze.{mmio_stopped, stop_word};
 ghost use Rattle.profile.specs.Step.{accessed};
 ghost use Rattle.profile.specs.Windows.{ones_of};
-ghost use Rattle.kinds.specs.Checked.{shown, Kept};
+ghost use Rattle.kinds.specs.declared.outcome.Check.TheVariants.{Kept};
 ghost use Rattle.kinds.specs.Words.{at};
 ghost use Rattle.owners.specs.ByOwner.{by_owner};
 ghost use Rattle.profile.specs.Owner.{of_hit};
@@ -55,7 +55,7 @@ pub fn ones(width: u64) -> u64
 
 // The owner of the window decides; `stopped` is the answer where its PE is MMIO stopped.
 pub fn access_of(pes: u16, state: &[u64], hit: Hit, stopped: Answer) -> Check
-    ensures { result ≡ shown (by_owner (λ p. Kept (accessed hit p (at state.now (stop_word p)) stopped)) (of_hit pes hit)) }
+    ensures { result ≡ by_owner (λ p. Kept (accessed hit p (at state.now (stop_word p)) stopped)) (of_hit pes hit) }
 {
     match owners::of_hit(pes, hit) {
         Owner::Of(pe) => {

@@ -3,11 +3,11 @@
 --     from_hit, from_next     one turn of the search through the M64 windows; from_end: its end
 --     route-m32, route-m64    M32 takes the address, or the M64 windows are asked
 -- Assumes nothing.
+use Rattle.kinds.specs.Lookup.{Route, hit}
+use Rattle.std.specs.Prelude.{None}
 use Rattle.std.proofs.Common.{◌≡◌, ℕ, zero, suc, ◌+◌, ◌-◌, ◌*◌, ◌%◌, ◌^◌, ◌<◌, ◌≤◌, Bool, true, false, cond, ◌&&◌, eqb, ltb, leb, List, sym, refl, ap, ◌∙◌, sub-one, arith, w64, Fits, ltb-true, leb-true}
 use Rattle.kinds.proofs.Tests.{and_left, and_right}
 use Rattle.kinds.specs.Words.{at, pe_at}
-use Rattle.kinds.specs.declared.lookup.Hit.{Hit}
-use Rattle.kinds.specs.declared.lookup.Hit.TheVariants.{At, Miss}
 use Rattle.kinds.specs.declared.number.ByteAddress.{ByteAddress}
 use Rattle.kinds.specs.declared.record.Window.{Window}
 use Rattle.mmio_windows.proofs.OpenLaws.{m32-power, m64-power}
@@ -44,7 +44,7 @@ module _ (b n c : ℕ) (a : ByteAddress) (h : m32_takes b n c a ≡ true) where
   pub m32-sized : WindowSize n
   m32-sized = wider 20 50 n (omega arith) (omega arith) (m32-power n m32-is-power)
 
-  pub m32-hits : {i v : ℕ} (ss : List ℕ) → i ≡ segment_of b n a → v ≡ pe_at ss i → At v (record { 0 = a.0 - b + c }) ≡ At (pe_at ss (segment_of b n a)) (record { 0 = a.0 - b + c })
+  pub m32-hits : {i v : ℕ} (ss : List ℕ) → i ≡ segment_of b n a → v ≡ pe_at ss i → hit v (record { 0 = a.0 - b + c }) ≡ hit (pe_at ss (segment_of b n a)) (record { 0 = a.0 - b + c })
   m32-hits ss e f = rw (f, e)
 
   pub m32_moved : Fits w64 (a.0 - b + c)
@@ -71,12 +71,12 @@ pub m64-taken : {p : Bool} {w : Window} (ws : List ℕ) (k : ℕ) (a : ByteAddre
 m64-taken ws k a v e h = ap (λ (x : Window). m64_takes x a) v ∙ sym e ∙ h
 
 -- the windows from number k on
-from_zero : (ws : List ℕ) (k : ℕ) (a : ByteAddress) → m64_from ws 0 k a ≡ Miss
+from_zero : (ws : List ℕ) (k : ℕ) (a : ByteAddress) → m64_from ws 0 k a ≡ None
 unfolding m64_from
 from_zero ws k a = refl
 
 from_suc : (ws : List ℕ) (n k : ℕ) (a : ByteAddress) → 0 < n
-    → m64_from ws n k a ≡ cond (m64_takes (window ws k) a) (At (m64_pe (window ws k) a) a) (m64_from ws (n - 1) (k + 1) a)
+    → m64_from ws n k a ≡ cond (m64_takes (window ws k) a) (hit (m64_pe (window ws k) a) a) (m64_from ws (n - 1) (k + 1) a)
 unfolding m64_from m64 m64_takes
 from_suc ws zero k a h = absurd (omega arith)
 from_suc ws (suc n) k a h = rw (sub-one (suc n))
@@ -84,22 +84,22 @@ from_suc ws (suc n) k a h = rw (sub-one (suc n))
 -- n windows are left, from number m64_count - n on
 module _ (ws : List ℕ) (n : ℕ) (a : ByteAddress) (i : m64_from ws m64_count 0 a ≡ m64_from ws n (m64_count - n) a) where
   module _ {p : Bool} (some : 0 < n) (few : n ≤ m64_count) (e : p ≡ m64_takes (window ws (m64_count - n)) a) where
-    from_here : m64_from ws m64_count 0 a ≡ cond p (At (m64_pe (window ws (m64_count - n)) a) a) (m64_from ws (n - 1) (m64_count - (n - 1)) a)
+    from_here : m64_from ws m64_count 0 a ≡ cond p (hit (m64_pe (window ws (m64_count - n)) a) a) (m64_from ws (n - 1) (m64_count - (n - 1)) a)
     from_here =
         let on : m64_count - n + 1 ≡ m64_count - (n - 1) = omega arith in
         i ∙ from_suc ws n (m64_count - n) a some ∙ rw (← e, on)
 
-    pub from_hit : {j : ℕ} {w : Window} → p ≡ true → w ≡ window ws (m64_count - n) → j ≡ m64_pe w a → At j a ≡ m64_from ws m64_count 0 a
+    pub from_hit : {j : ℕ} {w : Window} → p ≡ true → w ≡ window ws (m64_count - n) → j ≡ m64_pe w a → hit j a ≡ m64_from ws m64_count 0 a
     from_hit h v f = rw (f ∙ ap (λ (x : Window). m64_pe x a) v) (sym (rw h at from_here))
 
     pub from_next : p ≡ false → m64_from ws m64_count 0 a ≡ m64_from ws (n - 1) (m64_count - (n - 1)) a
     from_next h = rw h at from_here
 
-  pub from_end : n ≤ 0 → Miss ≡ m64_from ws m64_count 0 a
+  pub from_end : n ≤ 0 → None ≡ m64_from ws m64_count 0 a
   from_end h = let none : n ≡ 0 = omega arith in sym (i ∙ ap (λ (m : ℕ). m64_from ws m (m64_count - n) a) none ∙ from_zero ws (m64_count - n) a)
 
-module _ {p : Bool} {b n c : ℕ} {r : Hit} (ws ss : List ℕ) (a : ByteAddress) (f : b ≡ at ws 0) (g : n ≡ at ws 1) (h : c ≡ at ws 2) (e : p ≡ m32_takes b n c a) where
-  pub route-m32 : p ≡ true → r ≡ At (pe_at ss (segment_of b n a)) (record { 0 = a.0 - b + c }) → r ≡ route ws ss a
+module _ {p : Bool} {b n c : ℕ} {r : Route} (ws ss : List ℕ) (a : ByteAddress) (f : b ≡ at ws 0) (g : n ≡ at ws 1) (h : c ≡ at ws 2) (e : p ≡ m32_takes b n c a) where
+  pub route-m32 : p ≡ true → r ≡ hit (pe_at ss (segment_of b n a)) (record { 0 = a.0 - b + c }) → r ≡ route ws ss a
   unfolding route m32_takes
   route-m32 t o = rw (← f, ← g, ← h, ← e, t) o
 

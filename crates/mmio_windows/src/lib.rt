@@ -3,8 +3,8 @@
 
 mod open_windows;
 
+ghost use Rattle.kinds.specs.Lookup.{hit};
 ghost use Rattle.std.specs.Prelude.{◌≡◌, ◌+◌, ◌-◌, ◌<◌, ◌≤◌, true};
-ghost use Rattle.kinds.specs.declared.lookup.Hit.TheVariants.{At};
 ghost use Rattle.kinds.specs.Words.{pe_at};
 ghost use Rattle.mmio_windows.specs.Size.{WindowSize};
 ghost use Rattle.profile.specs.Windows.{m64_count, segment_of, m64_pe, window, m64_from, route};
@@ -43,7 +43,7 @@ fn segment(base: u64, size: u64, address: ByteAddress) -> u64
 // The PE of the segment, and the offset moved to the PCI base.
 fn m32_hit(segments: &[u16], base: u64, size: u64, pci: u64, address: ByteAddress) -> Hit
     requires { m32_takes base size pci address ≡ true }
-    ensures { result ≡ At (pe_at segments.now (segment_of base size address)) (record { 0 = address.0 - base + pci }) }
+    ensures { result ≡ hit (pe_at segments.now (segment_of base size address)) (record { 0 = address.0 - base + pci }) }
 {
     let index = segment(base, size, address) as usize;
     Hit::At {

@@ -33,7 +33,7 @@ fn is_power(least: u32, most: u32, size: u64) -> bool
 // A multiple of a window's size.
 fn is_multiple(value: u64, size: u64) -> bool
     requires { WindowSize size }
-    ensures { result ≡ (value % size == 0) }
+    ensures { result ≡ value % size == 0 }
 {
     value & (size - 1) == 0
 }

@@ -1,9 +1,9 @@
-// Outcomes and checks by what they say: a pass, a refusal, done; answered, known, to be walked. Defined in crates/kinds/specs/Outcome.antt and Checked.antt.
+// Outcomes and checks by what they say: a pass, a refusal, done; answered, known, to be walked. Defined in crates/kinds/specs/Outcome.antt and Check.antt.
 #![tactic(auto)]
 
 ghost use Rattle.std.specs.Prelude.{◌≡◌};
 ghost use Rattle.kinds.specs.Answer.{refuse};
-ghost use Rattle.kinds.specs.Checked.{shown, Kept, Ready, Walk, Fences};
+ghost use Rattle.kinds.specs.declared.outcome.Check.TheVariants.{Kept, Ready, Walk, Fences};
 ghost use Rattle.kinds.specs.Outcome as spec;
 
 use kinds::answer::{Answer, Reason};
@@ -68,93 +68,40 @@ pub fn done(effect: Effect) -> Outcome
     }
 }
 
-// No entry, and no DMA.
-const NO_ENTRY: TranslationEntry = TranslationEntry {
-    base: 0,
-    levels: 0,
-    table: 0,
-    page: 0,
-};
-
-const NO_DMA: DmaRequest = DmaRequest {
-    requester: 0,
-    direction: Direction::Read,
-    address: ByteAddress(0),
-    length: 0,
-    data: 0,
-};
-
 // A request that is answered; nothing is done.
 pub fn kept(answer: Answer) -> Check
-    ensures { result ≡ shown (Kept answer) }
+    ensures { result ≡ Kept answer }
 {
-    Check {
-        walks: false,
-        kept: true,
-        pe: PeNumber(0),
-        outcome: Outcome {
-            answer,
-            effect: Effect::Keep,
-        },
-        entry: NO_ENTRY,
-        dma: NO_DMA,
-    }
+    Check::Kept(answer)
 }
 
 // A request of a PE whose outcome is known.
 pub fn ready(pe: PeNumber, outcome: Outcome) -> Check
-    ensures { result ≡ shown (Ready pe outcome) }
+    ensures { result ≡ Ready pe outcome }
 {
-    Check {
-        walks: false,
-        kept: false,
-        pe,
-        outcome,
-        entry: NO_ENTRY,
-        dma: NO_DMA,
-    }
+    Check::Ready(pe, outcome)
 }
 
 // A DMA of a PE whose page table is walked.
 pub fn walk(pe: PeNumber, entry: TranslationEntry, dma: DmaRequest) -> Check
-    ensures { result ≡ shown (Walk pe entry dma) }
+    ensures { result ≡ Walk pe entry dma }
 {
-    Check {
-        walks: true,
-        kept: false,
-        pe,
-        outcome: Outcome {
-            answer: Answer::Done,
-            effect: Effect::Keep,
-        },
-        entry,
-        dma,
-    }
+    Check::Walk(pe, entry, dma)
 }
 
 // The fence bit becomes this: done at no PE.
 pub fn fences(bit: bool) -> Check
-    ensures { result ≡ shown (Fences bit) }
+    ensures { result ≡ Fences bit }
 {
-    Check {
-        walks: false,
-        kept: false,
-        pe: PeNumber(0),
-        outcome: Outcome {
-            answer: Answer::Done,
-            effect: Effect::Fence { bit },
-        },
-        entry: NO_ENTRY,
-        dma: NO_DMA,
-    }
+    Check::Fences(bit)
 }
 
 // A request that is refused with no table word read.
 pub fn refuse(reason: Reason) -> Check
-    ensures { result ≡ shown (Kept (refuse reason)) }
+    ensures { result ≡ Kept (refuse reason) }
 {
     let words = 0;
-    kept(Answer::Refuse {
+    Check::Kept(Answer::Refuse {
         reason,
         words,
         word: NO_WORD,

@@ -4,14 +4,13 @@
 --     asked-case          so what is found for a request of a kind is what is asked of its owner
 --     of_pe_lem, of_nobody  what is found by an owner that was looked up
 -- Assumes nothing.
-use Rattle.std.specs.Prelude.{◌≡◌, List, ℕ}
+use Rattle.kinds.specs.Lookup.{Owner}
+use Rattle.std.specs.Prelude.{◌≡◌, List, ℕ, Ok, Err}
 use Rattle.std.proofs.Math.Path.{refl}
 use Rattle.std.proofs.Common.{sym, ap, ◌∙◌}
 use Rattle.kinds.specs.Answer.{refuse}
-use Rattle.kinds.specs.Checked.{Checked, Kept, shown}
+use Rattle.kinds.specs.declared.outcome.Check.TheVariants.{Kept}
 use Rattle.kinds.specs.declared.answer.Reason.{Reason}
-use Rattle.kinds.specs.declared.lookup.Owner.{Owner}
-use Rattle.kinds.specs.declared.lookup.Owner.TheVariants.{Of, Nobody}
 use Rattle.kinds.specs.declared.number.PeNumber.{PeNumber}
 use Rattle.kinds.specs.declared.outcome.Check.{Check}
 use Rattle.kinds.specs.declared.record.Sizes.{Sizes}
@@ -24,18 +23,18 @@ use Rattle.owners.specs.ByOwner.{by_owner}
 module _ (z : Sizes) (b : ℕ) (q e w g : List ℕ) (s : Live) where
   pub asked_by : (y : Request) → ((r : Reason) → unowned y r ≡ Kept (refuse r)) → (o : Owner) → asked z b q e w g s y o ≡ by_owner (λ p. ask z b q e w g s p y) o
   unfolding asked by_owner
-  asked_by y refused (Of p) = refl
-  asked_by y refused (Nobody r) = refused r
+  asked_by y refused (Ok p) = refl
+  asked_by y refused (Err r) = refused r
 
   pub asked-case : {y x : Request} {c : Check} → y ≡ x → ((r : Reason) → unowned x r ≡ Kept (refuse r))
-      → c ≡ shown (by_owner (λ p. ask z b q e w g s p x) (owner_in z q w g s.interrupts x)) → c ≡ shown (asked z b q e w g s y (owner_in z q w g s.interrupts y))
-  asked-case {x = x} i refused h = rw i (h ∙ ap shown (sym (asked_by x refused (owner_in z q w g s.interrupts x))))
+      → c ≡ (by_owner (λ p. ask z b q e w g s p x) (owner_in z q w g s.interrupts x)) → c ≡ (asked z b q e w g s y (owner_in z q w g s.interrupts y))
+  asked-case {x = x} i refused h = rw i (h ∙ ap (sym (asked_by x refused (owner_in z q w g s.interrupts x))))
 
-module _ (k : PeNumber → Checked) (o : Owner) {i : Owner} (found : i ≡ o) where
-  pub of_pe_lem : {p : PeNumber} {x : Check} → i ≡ Of p → x ≡ shown (k p) → x ≡ shown (by_owner k o)
+module _ (k : PeNumber → Check) (o : Owner) {i : Owner} (found : i ≡ o) where
+  pub of_pe_lem : {p : PeNumber} {x : Check} → i ≡ Ok p → x ≡ (k p) → x ≡ (by_owner k o)
   unfolding by_owner
   of_pe_lem e h = rw (← found, e) h
 
-  pub of_nobody : {r : Reason} {x : Check} → i ≡ Nobody r → x ≡ shown (Kept (refuse r)) → x ≡ shown (by_owner k o)
+  pub of_nobody : {r : Reason} {x : Check} → i ≡ Err r → x ≡ (Kept (refuse r)) → x ≡ (by_owner k o)
   unfolding by_owner
   of_nobody e h = rw (← found, e) h

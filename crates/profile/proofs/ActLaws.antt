@@ -10,7 +10,8 @@
 --                         every word of the state that is not its PE's
 -- A new effect adds a clause to each.
 -- Assumes nothing.
-use Rattle.std.specs.Prelude.{◌≡◌, Bool, true, false, ◌&&◌, List, ℕ, zero, suc, ◌+◌, ◌*◌, ◌/◌, ◌%◌, ◌<◌, ◌≤◌, ltb, eqb, length, set}
+use Rattle.kinds.specs.Lookup.{Owner}
+use Rattle.std.specs.Prelude.{◌≡◌, Bool, true, false, ◌&&◌, List, ℕ, zero, suc, ◌+◌, ◌*◌, ◌/◌, ◌%◌, ◌<◌, ◌≤◌, ltb, eqb, length, set, Ok, Err}
 use Rattle.std.proofs.Math.Path.{refl}
 use Rattle.std.proofs.Common.{sym, ◌∙◌, arith, length-set, get_or-set_other}
 use Rattle.std.proofs.Math.Nat.{zero-div}
@@ -18,8 +19,6 @@ use borrow.Author.Tests.{ltb-true, ltb-false, le-ltb, eqb-true, eq-eqb, ne_eqb}
 use Rattle.kinds.proofs.Tests.{by_cases, cond_cases, clash, and_left}
 use Rattle.kinds.specs.Words.{at, bit_of}
 use Rattle.kinds.proofs.WordsLaws.{at_out, at_set, at-map_at, length_map_at}
-use Rattle.kinds.specs.declared.lookup.Owner.{Owner}
-use Rattle.kinds.specs.declared.lookup.Owner.TheVariants.{Of, Nobody}
 use Rattle.kinds.specs.declared.number.PeNumber.{PeNumber}
 use Rattle.kinds.specs.declared.outcome.Effect.{Effect}
 use Rattle.kinds.specs.declared.outcome.Effect.TheVariants.{Keep, Freeze, Release, Interrupt, Fence}
@@ -376,5 +375,5 @@ act-lengths n w p (Fence b) s = whole-lengths n (Fence b) s
 
 pub act_by-lengths : (f : Tables) (o : Owner) (e : Effect) (s : Live) → SameLengths s (act_by f o e s)
 unfolding act_by
-act_by-lengths f (Of p) e s = act-lengths f.sizes.pes f.peers p e s
-act_by-lengths f (Nobody r) e s = whole-lengths f.sizes.pes e s
+act_by-lengths f (Ok p) e s = act-lengths f.sizes.pes f.peers p e s
+act_by-lengths f (Err r) e s = whole-lengths f.sizes.pes e s

@@ -17,27 +17,22 @@
 --     unsized_answered    on tables that 01's table of lengths does not allow every answer is reason 1, with no word read; unsized_decided: and no effect
 --     unsized_keeps       and nothing changes
 -- Assumes nothing.
-use Rattle.std.specs.Prelude.{◌≡◌, Bool, cond, not, ◌&&◌, ◌||◌, List, ℕ, ◌*◌, ◌/◌, ◌%◌, ltb, length}
+use Rattle.kinds.specs.Lookup.{Owner, Found, Translated, Route}
+use Rattle.std.specs.Prelude.{◌≡◌, Bool, cond, not, ◌&&◌, ◌||◌, List, ℕ, ◌*◌, ◌/◌, ◌%◌, ltb, length, Ok, Err, Some, None}
 use Rattle.std.proofs.Math.Path.{refl, ap}
 use Rattle.std.proofs.Common.{sym, ◌∙◌, eq-eqb}
 use Rattle.std.proofs.Math.Bool.{true, false}
 use Rattle.std.proofs.Math.Option.{none}
 use Rattle.std.proofs.Math.Dec.{eqb}
 use Rattle.kinds.specs.Answer.{reason_number, numbered, refuse, is_done}
-use Rattle.kinds.specs.Checked.{Checked, Kept, Ready, Walk, Fences}
+use Rattle.kinds.specs.declared.outcome.Check.{Check}
+use Rattle.kinds.specs.declared.outcome.Check.TheVariants.{Kept, Ready, Walk, Fences}
 use Rattle.kinds.specs.Outcome as outcomes
 use Rattle.kinds.proofs.Tests.{by_cases, cond_cases, clash, not_true, and_left, and_right, none-some}
 use Rattle.kinds.specs.Words.{at}
 use Rattle.kinds.specs.declared.answer.Answer.{Answer}
 use Rattle.kinds.specs.declared.answer.Answer.TheVariants.{Pass, Msi, Held, Ones, Drop, Refuse, Done}
 use Rattle.kinds.specs.declared.answer.Reason.TheVariants.{TableLength, BadRequest, MmioStopped}
-use Rattle.kinds.specs.declared.lookup.Found.{Found}
-use Rattle.kinds.specs.declared.lookup.Hit.{Hit}
-use Rattle.kinds.specs.declared.lookup.Hit.TheVariants.{At, Miss}
-use Rattle.kinds.specs.declared.lookup.Owner.{Owner}
-use Rattle.kinds.specs.declared.lookup.Owner.TheVariants.{Of, Nobody}
-use Rattle.kinds.specs.declared.lookup.Translated.{Translated}
-use Rattle.kinds.specs.declared.lookup.Translated.TheVariants.{To, Fault}
 use Rattle.kinds.specs.declared.number.ByteAddress.{ByteAddress}
 use Rattle.kinds.specs.declared.number.PageSize.{PageSize}
 use Rattle.kinds.specs.declared.number.PeNumber.{PeNumber}
@@ -97,25 +92,25 @@ abbrev outcome_shown : Outcome → Bool
 outcome_shown o = outcome_by false o
 
 -- a check that changes the fence
-abbrev fencing : Checked → Bool
+abbrev fencing : Check → Bool
 fencing (Kept a) = false
 fencing (Ready p o) = false
 fencing (Walk p e q) = false
 fencing (Fences b) = true
 
-abbrev checked_shown : Checked → Bool
+abbrev checked_shown : Check → Bool
 checked_shown (Kept a) = told a
 checked_shown (Ready p o) = outcome_shown o
 checked_shown (Walk p e q) = true
 checked_shown (Fences b) = true
 
 abbrev translated_shown : Translated → Bool
-translated_shown (To a) = true
-translated_shown (Fault r w) = told (Refuse r 0 w)
+translated_shown (Ok a) = true
+translated_shown (Err e) = told (Refuse e.reason 0 e.word)
 
 abbrev owner_shown : Owner → Bool
-owner_shown (Of p) = true
-owner_shown (Nobody r) = told (refuse r)
+owner_shown (Ok p) = true
+owner_shown (Err r) = told (refuse r)
 
 either : {A : Type 0} (P : A → Bool) (b : Bool) {x y : A} → P x ≡ true → P y ≡ true → P (cond b x y) ≡ true
 either P b = cond_cases (λ x. P x ≡ true) b
@@ -138,13 +133,13 @@ pages-shown m e d o = landed-shown (page_size e) d o (walked_page m e (page_of e
 -- a refusal carries reason and word of the fault, whatever the count, and so does the record
 outcome_of-shown : (p : PeNumber) (a : ByteAddress) (t : Translated) (n : ℕ) → translated_shown t ≡ true → outcome_shown (outcome_of p a t n) ≡ true
 unfolding outcome_of told shown worded
-outcome_of-shown p a (To x) n h = refl
-outcome_of-shown p a (Fault r w) n h = rw (h, eq-eqb (reason_number r) (reason_number r) refl, eq-eqb w.0 w.0 refl)
+outcome_of-shown p a (Ok x) n h = refl
+outcome_of-shown p a (Err e) n h = rw (h, eq-eqb (reason_number e.reason) (reason_number e.reason) refl, eq-eqb e.word.0 e.word.0 refl)
 
 last_test-shown : (i n : ℕ) (t : Translated) → translated_shown t ≡ true → translated_shown (last_test i n t) ≡ true
 unfolding last_test told shown worded
-last_test-shown i n (To x) h = either translated_shown (installed_to i x n) refl refl
-last_test-shown i n (Fault r w) h = h
+last_test-shown i n (Ok x) h = either translated_shown (installed_to i x n) refl refl
+last_test-shown i n (Err e) h = h
 
 reached-shown : (i : ℕ) (p : PeNumber) (q : DmaRequest) (t : Translated) (n : ℕ) → translated_shown t ≡ true → outcome_shown (reached i p q t n) ≡ true
 reached-shown i p q t n h = outcome_of-shown p q.address (last_test i q.length t) n (last_test-shown i q.length t h)
@@ -178,10 +173,10 @@ on_good-shown : (e : interrupts.Interrupt) (o : Outcome) → outcome_shown o ≡
 unfolding told shown worded
 on_good-shown e o h = either outcome_shown (ranged e) h refl
 
-accessed-shown : (h : Hit) (p : PeNumber) (w : ℕ) (x : Answer) → told x ≡ true → told (accessed h p w x) ≡ true
+accessed-shown : (h : Route) (p : PeNumber) (w : ℕ) (x : Answer) → told x ≡ true → told (accessed h p w x) ≡ true
 unfolding accessed told shown worded
-accessed-shown (At n c) p w x h = either told (mmio_stopped w) h refl
-accessed-shown Miss p w x h = h
+accessed-shown (Some i) p w x h = either told (mmio_stopped w) h refl
+accessed-shown None p w x h = h
 
 by_entry-shown : (i : ℕ) (e : TranslationEntry) (p : PeNumber) (q : DmaRequest) → checked_shown (by_entry i e p q) ≡ true
 unfolding by_entry
@@ -196,7 +191,7 @@ served-shown class.Msi32 k i e l p q = msi-shown k l p q.address _ _
 served-shown class.Msi64 k i e l p q = msi-shown k l p q.address _ _
 served-shown class.Unserved k i e l p q = refl
 
-finish-shown : (i : ℕ) (m : List ℕ) (x : Checked) → checked_shown x ≡ true → outcome_by (fencing x) (finish i m x) ≡ true
+finish-shown : (i : ℕ) (m : List ℕ) (x : Check) → checked_shown x ≡ true → outcome_by (fencing x) (finish i m x) ≡ true
 unfolding finish told shown worded
 finish-shown i m (Kept a) h = h
 finish-shown i m (Ready p o) h = h
@@ -226,11 +221,11 @@ module _ (z : Sizes) (installed : ℕ) (requesters entries windows segments : Li
 
   asked-shown : (q : Request) (o : Owner) → owner_shown o ≡ true → checked_shown (asked z installed requesters entries windows segments s q o) ≡ true
   unfolding asked
-  asked-shown q (Of p) h = ask-shown p q
-  asked-shown q (Nobody r) h = unowned-cases (λ x. checked_shown x ≡ true) q r h refl
+  asked-shown q (Ok p) h = ask-shown p q
+  asked-shown q (Err r) h = unowned-cases (λ x. checked_shown x ≡ true) q r h refl
 
   -- all checks but the fence's
-  abbrev pub unbarred : (ok : Bool) → Request → Checked
+  abbrev pub unbarred : (ok : Bool) → Request → Check
   unbarred ok q =
       cond ok
       (cond (formed q) (asked z installed requesters entries windows segments s q (owner_in z requesters windows segments s.interrupts q)) (Kept (refuse BadRequest)))
@@ -265,17 +260,17 @@ module _ (z : Sizes) (installed : ℕ) (requesters entries windows segments : Li
 
   asked-fencing : (q : Request) (o : Owner) → kind q ≡ none → fencing (asked z installed requesters entries windows segments s q o) ≡ false
   unfolding asked unowned
-  asked-fencing q (Of p) e = ask-fencing p q e
-  asked-fencing (Dma q) (Nobody r) e = refl
-  asked-fencing (Load a w) (Nobody r) e = refl
-  asked-fencing (Store a w) (Nobody r) e = refl
-  asked-fencing (Error q) (Nobody r) e = refl
-  asked-fencing (Clear p c) (Nobody r) e = refl
-  asked-fencing (End i) (Nobody r) e = refl
-  asked-fencing (Priority i n) (Nobody r) e = refl
-  asked-fencing (Fatal q) (Nobody r) e = refl
-  asked-fencing FenceClear (Nobody r) e = none-some (sym e)
-  asked-fencing Unnamed (Nobody r) e = refl
+  asked-fencing q (Ok p) e = ask-fencing p q e
+  asked-fencing (Dma q) (Err r) e = refl
+  asked-fencing (Load a w) (Err r) e = refl
+  asked-fencing (Store a w) (Err r) e = refl
+  asked-fencing (Error q) (Err r) e = refl
+  asked-fencing (Clear p c) (Err r) e = refl
+  asked-fencing (End i) (Err r) e = refl
+  asked-fencing (Priority i n) (Err r) e = refl
+  asked-fencing (Fatal q) (Err r) e = refl
+  asked-fencing FenceClear (Err r) e = none-some (sym e)
+  asked-fencing Unnamed (Err r) e = refl
 
   unbarred-fencing : (ok : Bool) (q : Request) → kind q ≡ none → fencing (unbarred ok q) ≡ false
   unbarred-fencing ok q e = neither fencing ok (neither fencing (formed q) (asked-fencing q _ e) refl) refl
@@ -292,7 +287,7 @@ module _ (z : Sizes) (installed : ℕ) (requesters entries windows segments : Li
 abbrev pub stopped : Tables → (memory : ℕ) → Live → Request → Bool
 stopped f n s q = sized f.sizes (lengths f n s) && formed q && barred (at s.state (fence_word f.sizes.pes)) q
 
-abbrev pub unbarred_on : Tables → (memory : ℕ) → Live → Request → Checked
+abbrev pub unbarred_on : Tables → (memory : ℕ) → Live → Request → Check
 unbarred_on f n s q =
     unbarred f.sizes f.installed f.requesters f.entries f.windows f.segments s (sized f.sizes (lengths f n s)) q
 
@@ -303,8 +298,8 @@ shut-shown q = shut-cases (λ a. (eqb (numbered a).reason 18 && shown a && worde
 
 kept-still : (f : Tables) (s : Live) (o : Owner) → act_by f o Keep s ≡ s
 unfolding act_by act whole
-kept-still f s (Of p) = refl
-kept-still f s (Nobody r) = refl
+kept-still f s (Ok p) = refl
+kept-still f s (Err r) = refl
 
 -- answer and effect as if there were no fence
 abbrev pub unfenced : Tables → List ℕ → Live → Request → Outcome
@@ -414,14 +409,14 @@ within-calm (Release c) h = refl
 within-calm (Interrupt i n b) h = refl
 within-calm (Fence b) h = clash refl h
 
-owner-others : (f : Tables) (s : Live) (i : ℕ) (o : Owner) (x : Effect) → beyond x ≡ false → ¬ (o ≡ Of (pe_of i))
+owner-others : (f : Tables) (s : Live) (i : ℕ) (o : Owner) (x : Effect) → beyond x ≡ false → ¬ (o ≡ Ok (pe_of i))
     → at (act_by f o x s).state i ≡ at s.state i
 unfolding act_by
-owner-others f s i (Of p) x h away = act-others f.sizes.pes f.peers p s i (λ e. away (rw e)) x h
-owner-others f s i (Nobody r) x h away = rw (whole-calm f.sizes.pes x (within-calm x h) s)
+owner-others f s i (Ok p) x h away = act-others f.sizes.pes f.peers p s i (λ e. away (rw e)) x h
+owner-others f s i (Err r) x h away = rw (whole-calm f.sizes.pes x (within-calm x h) s)
 
 pub refused-others : (f : Tables) (m : List ℕ) (s : Live) (q : Request) → eqb (numbered (answered f m s q)).reason 0 ≡ false
-    → (i : ℕ) → ¬ (owner f s q ≡ Of (pe_of i)) → at (after f m s q).state i ≡ at s.state i
+    → (i : ℕ) → ¬ (owner f s q ≡ Ok (pe_of i)) → at (after f m s q).state i ≡ at s.state i
 refused-others f m s q r i away =
     owner-others f s i (owner f s q) (decided f m s q).effect
     (none-beyond (answered f m s q) (decided f m s q).effect (decided-fits f m s q) r) away

@@ -6,19 +6,18 @@
 --     after-lengths       no request changes the length of a table
 --     obeyed-keeps        no request changes whether another one is obeyed
 -- Assumes nothing.
-use Rattle.std.specs.Prelude.{◌≡◌, Bool, cond, List, ℕ, length}
+use Rattle.kinds.specs.Lookup.{Owner}
+use Rattle.std.specs.Prelude.{◌≡◌, Bool, cond, List, ℕ, length, Ok, Err}
 use Rattle.std.proofs.Math.Path.{refl}
 use Rattle.std.proofs.Common.{sym, ap, ap₂, ◌∙◌}
 use Rattle.std.proofs.Math.Bool.{true, false}
 use Rattle.std.proofs.Math.Option.{Option, none, some}
 use Rattle.kinds.specs.Answer.{refuse, is_done}
-use Rattle.kinds.specs.Checked.{Kept}
+use Rattle.kinds.specs.declared.outcome.Check.TheVariants.{Kept}
 use Rattle.kinds.specs.Outcome.{refused, done}
 use Rattle.kinds.proofs.Tests.{by_cases, clash, option_cases, none-some}
 use Rattle.kinds.specs.Words.{at}
 use Rattle.kinds.specs.declared.answer.Reason.TheVariants.{TableLength}
-use Rattle.kinds.specs.declared.lookup.Owner.{Owner}
-use Rattle.kinds.specs.declared.lookup.Owner.TheVariants.{Of, Nobody}
 use Rattle.kinds.specs.declared.number.PeNumber.{PeNumber}
 use Rattle.kinds.specs.declared.outcome.Effect.{Effect}
 use Rattle.kinds.specs.declared.outcome.Effect.TheVariants.{Keep, Freeze, Release, Interrupt, Fence}
@@ -48,8 +47,8 @@ fence_of (Fence false) = some Cleared
 -- by reason 1 and by its owner
 abbrev event_by : Event → (ok : Bool) → Owner → Outcome
 event_by e false o = refused TableLength
-event_by FatalMessage true (Of p) = done (Fence true)
-event_by FatalMessage true (Nobody x) = refused x
+event_by FatalMessage true (Ok p) = done (Fence true)
+event_by FatalMessage true (Err x) = refused x
 event_by Cleared true o = done (Fence false)
 
 module _ (f : Tables) (m : List ℕ) (s : Live) where
@@ -62,14 +61,14 @@ module _ (f : Tables) (m : List ℕ) (s : Live) where
   fatal_with : (w r : ℕ) (ok : Bool) (o : Owner) → decided_with w ok (Fatal r) o ≡ event_by FatalMessage ok o
   unfolding stops asked ask unowned finish
   fatal_with w r false o = refl
-  fatal_with w r true (Of p) = by_cases (fenced w) (λ b. rw b) (λ b. rw b)
-  fatal_with w r true (Nobody x) = by_cases (fenced w) (λ b. rw b) (λ b. rw b)
+  fatal_with w r true (Ok p) = by_cases (fenced w) (λ b. rw b) (λ b. rw b)
+  fatal_with w r true (Err x) = by_cases (fenced w) (λ b. rw b) (λ b. rw b)
 
   clear_with : (w : ℕ) (ok : Bool) (o : Owner) → decided_with w ok FenceClear o ≡ event_by Cleared ok o
   unfolding stops asked ask unowned finish
   clear_with w false o = refl
-  clear_with w true (Of p) = by_cases (fenced w) (λ b. rw b) (λ b. rw b)
-  clear_with w true (Nobody x) = by_cases (fenced w) (λ b. rw b) (λ b. rw b)
+  clear_with w true (Ok p) = by_cases (fenced w) (λ b. rw b) (λ b. rw b)
+  clear_with w true (Err x) = by_cases (fenced w) (λ b. rw b) (λ b. rw b)
 
   decided-event : (q : Request) (e : Event) → kind q ≡ some e → decided f m s q ≡ event_by e (sized f.sizes (lengths f (length m) s)) (owner f s q)
   unfolding checked formed
@@ -112,8 +111,8 @@ some-fence (Fence false) e h = let z : Cleared ≡ e = cc in rw (← z)
 -- done and the fence's effect come together
 by_event : (e : Event) (ok : Bool) (o : Owner) → cond (is_done (event_by e ok o).answer) (some e) none ≡ fence_of (event_by e ok o).effect
 by_event e false o = refl
-by_event FatalMessage true (Of p) = refl
-by_event FatalMessage true (Nobody x) = refl
+by_event FatalMessage true (Ok p) = refl
+by_event FatalMessage true (Err x) = refl
 by_event Cleared true o = refl
 
 same_none : (b : Bool) → ◌≡◌ {A = Option Event} (cond b none none) none
@@ -136,8 +135,8 @@ module _ (f : Tables) (m : List ℕ) (s : Live) (q : Request) where
 
   acted-whole : (o : Owner) (b : Bool) → act_by f o (Fence b) s ≡ whole f.sizes.pes (Fence b) s
   unfolding act_by act
-  acted-whole (Of p) b = refl
-  acted-whole (Nobody x) b = refl
+  acted-whole (Ok p) b = refl
+  acted-whole (Err x) b = refl
 
   pub obeyed-does : (e : Event) → obeyed f m s q ≡ some e → after f m s q ≡ whole f.sizes.pes (Fence (fence_bit e)) s
   obeyed-does e h =
@@ -153,8 +152,8 @@ nobody-closed : (f : Tables) → Closed nobody f
 nobody-closed f = record { unlisted = λ p k h b o g. clash g refl }
 
 nobody-owned : (o : Owner) → owned nobody o ≡ false
-nobody-owned (Of p) = refl
-nobody-owned (Nobody r) = refl
+nobody-owned (Ok p) = refl
+nobody-owned (Err r) = refl
 
 module _ (f : Tables) (m : List ℕ) (s : Live) (q : Request) where
   unobeyed_same : obeyed f m s q ≡ none → Same nobody f.sizes s (after f m s q)

@@ -6,7 +6,8 @@
 --                         LAST, and MSI, loads, stores, messages and firmware are UNTOUCHED
 --     pass-installed      a DMA that passes ends below the installed size: NOTHING passes above it
 -- Assumes nothing.
-use Rattle.std.specs.Prelude.{◌≡◌, Bool, cond, ◌&&◌, List, ℕ, ◌+◌, ◌-◌, ◌≤◌, ◌<◌, ltb, eqb, length}
+use Rattle.kinds.specs.Lookup.{Owner, Translated}
+use Rattle.std.specs.Prelude.{◌≡◌, Bool, cond, ◌&&◌, List, ℕ, ◌+◌, ◌-◌, ◌≤◌, ◌<◌, ltb, eqb, length, Ok, Err}
 use Rattle.std.proofs.Math.Path.{refl, sym}
 use Rattle.std.proofs.Common.{ap, arith}
 use Rattle.std.proofs.Math.Bool.{true, false}
@@ -20,10 +21,6 @@ use Rattle.kinds.specs.declared.answer.Answer.{Answer}
 use Rattle.kinds.specs.declared.answer.Answer.TheVariants.{Pass, Msi, Held, Ones, Drop, Refuse, Done}
 use Rattle.kinds.specs.declared.answer.Reason.{Reason}
 use Rattle.kinds.specs.declared.answer.Reason.TheVariants.{TableLength, BadRequest, AboveInstalled}
-use Rattle.kinds.specs.declared.lookup.Owner.{Owner}
-use Rattle.kinds.specs.declared.lookup.Owner.TheVariants.{Of, Nobody}
-use Rattle.kinds.specs.declared.lookup.Translated.{Translated}
-use Rattle.kinds.specs.declared.lookup.Translated.TheVariants.{To, Fault}
 use Rattle.kinds.specs.declared.number.ByteAddress.{ByteAddress}
 use Rattle.kinds.specs.declared.number.PeNumber.{PeNumber}
 use Rattle.kinds.specs.declared.outcome.Effect.TheVariants.{Fence}
@@ -118,11 +115,11 @@ module _ {i j : ℕ} (low : i ≤ j) where
 
   reached-limited : (p : PeNumber) (q : DmaRequest) (t : Translated) (n : ℕ) → reached i p q t n ≡ limited i q (reached j p q t n)
   unfolding limited_by last_test outcome_of
-  reached-limited p q (To x) n =
+  reached-limited p q (Ok x) n =
       by_cases (installed_to j x q.length)
       (λ h. by_cases (installed_to i x q.length) (λ k. rw (h, k)) (λ k. rw (h, k)))
       (λ h. rw (h, above-both x q.length h))
-  reached-limited p q (Fault r w) n = refl
+  reached-limited p q (Err e) n = refl
 
   module _ (m : List ℕ) where
     by_entry-limited : (e : TranslationEntry) (p : PeNumber) (q : DmaRequest) → finish i m (by_entry i e p q) ≡ limited i q (finish j m (by_entry j e p q))
@@ -157,8 +154,8 @@ module _ {i j : ℕ} (low : i ≤ j) where
       asked-limited : (q : Request) (o : Owner)
           → finish i m (asked z i requesters entries windows segments s q o) ≡ limited_in i q (finish j m (asked z j requesters entries windows segments s q o))
       unfolding asked finish
-      asked-limited q (Of p) = ask-limited p q
-      asked-limited q (Nobody r) =
+      asked-limited q (Ok p) = ask-limited p q
+      asked-limited q (Err r) =
           unowned-cases (λ x. finish i m x ≡ limited_in i q (finish j m x)) q r (sym (refused-limited i q r)) (sym (fences-limited i q false))
 
       checked-limited : (ok : Bool) (q : Request)

@@ -8,12 +8,11 @@
 --     owners              all of them
 --     owners_hold         THE STATEMENT: the definition gives each row's owner; owners-answered: and its answer, which shows what it is a row of
 -- Assumes nothing.
-use Rattle.std.specs.Prelude.{◌≡◌, refl, List, [], ◌∷◌, ◌++◌, map, ℕ, ◌+◌, ◌-◌, ◌*◌, ◌^◌, replicate}
+use Rattle.kinds.specs.Lookup.{Owner}
+use Rattle.std.specs.Prelude.{◌≡◌, refl, List, [], ◌∷◌, ◌++◌, map, ℕ, ◌+◌, ◌-◌, ◌*◌, ◌^◌, replicate, Ok, Err}
 use Rattle.kinds.specs.declared.answer.Answer.TheVariants.{Msi, Ones, Drop, Done}
 use Rattle.kinds.specs.declared.answer.Reason.{Reason}
 use Rattle.kinds.specs.declared.answer.Reason.TheVariants.{TableLength, BadRequest, UnknownRequester, DmaStopped, AddressClass, BadEntry, OutsideWindow, TableWord, MsiRefused, NoWindow, MmioStopped, BadFirmware, OutsideMemory, AboveInstalled}
-use Rattle.kinds.specs.declared.lookup.Owner.{Owner}
-use Rattle.kinds.specs.declared.lookup.Owner.TheVariants.{Of, Nobody}
 use Rattle.kinds.specs.declared.request.Part.TheVariants.{Mmio, Dma, Record}
 use Rattle.kinds.specs.declared.request.Request.TheVariants.{Error, Clear, End, Priority, Fatal, FenceClear, Unnamed}
 use Rattle.profile.proofs.Opened.{opened}
@@ -29,10 +28,10 @@ pub record Owning : Type 0 where
   pub owner : Owner
 
 abbrev pub mine : (pe : ℕ) → Case → Owning
-mine p c = record { case = c; owner = Of (record { 0 = p }) }
+mine p c = record { case = c; owner = Ok (record { 0 = p }) }
 
 abbrev pub nobodys : Reason → Case → Owning
-nobodys r c = record { case = c; owner = Nobody r }
+nobodys r c = record { case = c; owner = Err r }
 
 -- the plain bridge with other requesters
 abbrev pub asking : (requesters : List ℕ) → Tables

@@ -6,7 +6,8 @@
 --     owner_agrees        and on two bridges that agree in what a group sees a request belongs to the same PE, or to nobody with the same refusal
 --     missing-nobody      a request whose PE word is in a table too short to hold it belongs to nobody
 -- Assumes nothing.
-use Rattle.std.specs.Prelude.{◌≡◌, Bool, false, cond, List, ℕ, ◌<◌, ◌≤◌, ltb, length}
+use Rattle.kinds.specs.Lookup.{Owner, Route}
+use Rattle.std.specs.Prelude.{◌≡◌, Bool, false, cond, List, ℕ, ◌<◌, ◌≤◌, ltb, length, Ok, Err, Some, None}
 use Rattle.std.proofs.Math.Path.{refl}
 use Rattle.std.proofs.Math.Bool.{true}
 use Rattle.std.proofs.Math.ListN.{get_or-eq_default}
@@ -15,10 +16,6 @@ use Rattle.kinds.proofs.Tests.{by_cases}
 use Rattle.kinds.specs.Words.{no_pe, pe_at}
 use Rattle.kinds.specs.declared.answer.Reason.{Reason}
 use Rattle.kinds.specs.declared.answer.Reason.TheVariants.{BadRequest, UnknownRequester, NoWindow, BadFirmware}
-use Rattle.kinds.specs.declared.lookup.Hit.{Hit}
-use Rattle.kinds.specs.declared.lookup.Hit.TheVariants.{At, Miss}
-use Rattle.kinds.specs.declared.lookup.Owner.{Owner}
-use Rattle.kinds.specs.declared.lookup.Owner.TheVariants.{Of, Nobody}
 use Rattle.kinds.specs.declared.number.PeNumber.{PeNumber}
 use Rattle.kinds.specs.declared.outcome.Effect.{Effect}
 use Rattle.kinds.specs.declared.record.Sizes.{Sizes}
@@ -33,28 +30,28 @@ use Rattle.profile.specs.Agree.{Same, Alike}
 use Rattle.profile.proofs.ActLaws.{whole-keeps, act-keeps}
 
 abbrev pub Below : ℕ → Owner → Type 0
-Below n (Of p) = p.0 < n
-Below n (Nobody r) = Unit {0}
+Below n (Ok p) = p.0 < n
+Below n (Err r) = Unit {0}
 
 -- a number that is taken for a PE, after a test or, with b true, after none
-named-cases : (P : Owner → Type 0) (n : ℕ) → ((p : PeNumber) → p.0 < n → P (Of p)) → (x : Reason) → P (Nobody x) → (b : Bool) (k : ℕ)
-    → P (cond b (named x n k) (Nobody x))
+named-cases : (P : Owner → Type 0) (n : ℕ) → ((p : PeNumber) → p.0 < n → P (Ok p)) → (x : Reason) → P (Err x) → (b : Bool) (k : ℕ)
+    → P (cond b (named x n k) (Err x))
 unfolding named
 named-cases P n pe x h false k = h
 named-cases P n pe x h true k = by_cases (ltb k n) (λ o. rw o (pe (record { 0 = k }) (ltb-true k n o))) (λ o. rw o h)
 
 module _ (z : Sizes) (r w g l : List ℕ) where
-  module _ (P : Owner → Type 0) (pe : (p : PeNumber) → p.0 < z.pes → P (Of p)) (unnamed : P (Nobody BadRequest)) (unknown : P (Nobody UnknownRequester))
-      (lost : P (Nobody NoWindow)) (bad : P (Nobody BadFirmware)) where
+  module _ (P : Owner → Type 0) (pe : (p : PeNumber) → p.0 < z.pes → P (Ok p)) (unnamed : P (Err BadRequest)) (unknown : P (Err UnknownRequester))
+      (lost : P (Err NoWindow)) (bad : P (Err BadFirmware)) where
     requester_cases : (q : ℕ) → P (of_requester z.pes z.requesters r q)
     requester_cases q = named-cases P z.pes pe UnknownRequester unknown (ltb q z.requesters) _
 
     interrupt-cases : (i : ℕ) → P (of_interrupt z.pes z.interrupts l i)
     interrupt-cases i = named-cases P z.pes pe BadFirmware bad (ltb i z.interrupts) _
 
-    hit_cases : (h : Hit) → P (of_hit z.pes h)
-    hit_cases (At k c) = named-cases P z.pes pe NoWindow lost true k
-    hit_cases Miss = lost
+    hit_cases : (h : Route) → P (of_hit z.pes h)
+    hit_cases (Some h) = named-cases P z.pes pe NoWindow lost true h.pe
+    hit_cases None = lost
 
     pub owner_in-cases : (q : Request) → P (owner_in z r w g l q)
     unfolding owner_in
@@ -93,8 +90,8 @@ module _ (f : Tables) where
 
   acted-keeps : (o : Owner) (e : Effect) (s : Live) (i : ℕ) → (interrupt (act_by f o e s) i).pe ≡ (interrupt s i).pe
   unfolding act_by
-  acted-keeps (Of p) e s i = act-keeps f.sizes.pes f.peers p e s i
-  acted-keeps (Nobody r) e s i = whole-keeps f.sizes.pes e s i
+  acted-keeps (Ok p) e s i = act-keeps f.sizes.pes f.peers p e s i
+  acted-keeps (Err r) e s i = whole-keeps f.sizes.pes e s i
 
   -- whatever effect is done, at whatever PE
   pub owner-keeps : (o : Owner) (e : Effect) (s : Live) (q : Request) → owner f (act_by f o e s) q ≡ owner f s q
@@ -110,6 +107,6 @@ module _ {G : PeNumber → Bool} {f g : Tables} (w : Alike G f g) {s t : Live} (
 -- ---- tables that are too short
 
 -- a PE word that a table does not have is nobody's, N being at most 65,536
-pub missing-nobody : (x : Reason) (n : ℕ) (l : List ℕ) (i : ℕ) → n ≤ no_pe → length l ≤ i → named x n (pe_at l i) ≡ Nobody x
+pub missing-nobody : (x : Reason) (n : ℕ) (l : List ℕ) (i : ℕ) → n ≤ no_pe → length l ≤ i → named x n (pe_at l i) ≡ Err x
 unfolding named
 missing-nobody x n l i h e = rw (get_or-eq_default l no_pe e, le-ltb no_pe n h)

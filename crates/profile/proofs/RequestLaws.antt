@@ -12,23 +12,21 @@
 -- A new kind of request adds a clause to owner_in-cases, owner_in-reads, ask_agrees, ask-walks, unowned-cases and ask-owner; one that has an effect of its own
 -- adds that effect to the laws of `ActLaws`; one that reads a table adds what it reads of it to `Alike`, `Same` or `Held`.
 -- Assumes nothing.
-use Rattle.std.specs.Prelude.{◌≡◌, Bool, cond, ◌&&◌, List, ℕ, ◌/◌, ◌%◌, ◌<◌, eqb, length}
+use Rattle.kinds.specs.Lookup.{Owner, Route}
+use Rattle.std.specs.Prelude.{◌≡◌, Bool, cond, ◌&&◌, List, ℕ, ◌/◌, ◌%◌, ◌<◌, eqb, length, Ok, Err, Some, None}
 use Rattle.std.proofs.Math.Path.{refl, ap}
 use Rattle.std.proofs.Common.{ap₂, ◌∙◌, arith, ltb-true, eqb-true}
 use Rattle.std.proofs.Math.Bool.{true, false}
 use Rattle.std.proofs.Math.Dec.{ltb}
 use Rattle.kinds.proofs.Tests.{by_cases, clash, and_right}
-use Rattle.kinds.specs.Checked.{Checked, Kept, Ready, Walk, Fences}
+use Rattle.kinds.specs.declared.outcome.Check.{Check}
+use Rattle.kinds.specs.declared.outcome.Check.TheVariants.{Kept, Ready, Walk, Fences}
 use Rattle.kinds.specs.Words.{at}
 use Rattle.kinds.specs.declared.answer.Answer.{Answer}
 use Rattle.kinds.specs.Answer.{refuse}
 use Rattle.kinds.specs.declared.answer.Answer.TheVariants.{Ones, Drop}
 use Rattle.kinds.specs.declared.answer.Reason.{Reason}
 use Rattle.kinds.specs.declared.answer.Reason.TheVariants.{DmaStopped, MmioStopped}
-use Rattle.kinds.specs.declared.lookup.Hit.{Hit}
-use Rattle.kinds.specs.declared.lookup.Hit.TheVariants.{At, Miss}
-use Rattle.kinds.specs.declared.lookup.Owner.{Owner}
-use Rattle.kinds.specs.declared.lookup.Owner.TheVariants.{Of, Nobody}
 use Rattle.kinds.specs.declared.number.ByteAddress.{ByteAddress}
 use Rattle.kinds.specs.declared.number.PeNumber.{PeNumber}
 use Rattle.kinds.specs.declared.outcome.Effect.{Effect}
@@ -59,7 +57,7 @@ use Rattle.profile.proofs.OwnerLaws.{Below, owner-below, owner_agrees}
 -- ---- two bridges
 
 -- the request of PE p, on a bridge's tables
-abbrev ask_on : Tables → Live → PeNumber → Request → Checked
+abbrev ask_on : Tables → Live → PeNumber → Request → Check
 ask_on f s p q = ask f.sizes f.installed f.requesters f.entries f.windows f.segments s p q
 
 module _ {G : PeNumber → Bool} {f g : Tables} (w : Alike G f g) where
@@ -108,11 +106,11 @@ module _ {G : PeNumber → Bool} {f g : Tables} (w : Alike G f g) where
     mmio_bit_agrees : (p : PeNumber) → G p ≡ true → at s.state (stop_word p) % 2 ≡ at t.state (stop_word p) % 2
     mmio_bit_agrees p u = omega (arith, stop_agrees r p u)
 
-    accessed_agrees : (p : PeNumber) → G p ≡ true → (h : Hit) (stopped : Answer)
+    accessed_agrees : (p : PeNumber) → G p ≡ true → (h : Route) (stopped : Answer)
         → accessed h p (at s.state (stop_word p)) stopped ≡ accessed h p (at t.state (stop_word p)) stopped
     unfolding accessed
-    accessed_agrees p u (At n c) stopped = rw (mmio_bit_agrees p u)
-    accessed_agrees p u Miss stopped = refl
+    accessed_agrees p u (Some h) stopped = rw (mmio_bit_agrees p u)
+    accessed_agrees p u None stopped = refl
 
     access_agrees : (p : PeNumber) → G p ≡ true → (a : ByteAddress) (stopped : Answer)
         → Kept (accessed (route f.windows f.segments a) p (at s.state (stop_word p)) stopped)
@@ -138,8 +136,8 @@ module _ {G : PeNumber → Bool} {f g : Tables} (w : Alike G f g) where
         → asked f.sizes f.installed f.requesters f.entries f.windows f.segments s q o
         ≡ asked g.sizes g.installed g.requesters g.entries g.windows g.segments t q o
     unfolding asked
-    asked_agrees q b (Of p) u = ask_agrees q b p u
-    asked_agrees q b (Nobody x) u = clash u refl
+    asked_agrees q b (Ok p) u = ask_agrees q b p u
+    asked_agrees q b (Err x) u = clash u refl
 
     pub sized_agrees : (n : ℕ) → sized f.sizes (lengths f n s) ≡ sized g.sizes (lengths g n t)
     sized_agrees n =
@@ -152,7 +150,7 @@ module _ {G : PeNumber → Bool} {f g : Tables} (w : Alike G f g) where
 -- ---- a walk
 
 -- a walk that is asked for reads words that `Reads` has
-abbrev pub Walkable : Tables → PeNumber → Checked → Type 0
+abbrev pub Walkable : Tables → PeNumber → Check → Type 0
 Walkable f k (Kept a) = Unit {0}
 Walkable f k (Ready p o) = Unit {0}
 Walkable f k (Fences b) = Unit {0}
@@ -182,7 +180,7 @@ ask-walks f s p (Fatal r) = tt
 ask-walks f s p FenceClear = tt
 ask-walks f s p Unnamed = tt
 
-pub checked-walks : (f : Tables) (n : ℕ) (s : Live) (q : Request) (p : PeNumber) → owner f s q ≡ Of p → Walkable f p (checked_on f n s q)
+pub checked-walks : (f : Tables) (n : ℕ) (s : Live) (q : Request) (p : PeNumber) → owner f s q ≡ Ok p → Walkable f p (checked_on f n s q)
 unfolding checked asked
 checked-walks f n s q p h =
     by_cases (sized f.sizes (lengths f n s))
@@ -195,7 +193,7 @@ checked-walks f n s q p h =
 
 module _ {G : PeNumber → Bool} {f g : Tables} (w : Alike G f g) where
   module _ {m n : List ℕ} (h : Held G f m n) where
-    pub finish_agrees : (p : PeNumber) → G p ≡ true → p.0 < f.sizes.pes → (i : ℕ) (x : Checked) → Walkable f p x → finish i m x ≡ finish i n x
+    pub finish_agrees : (p : PeNumber) → G p ≡ true → p.0 < f.sizes.pes → (i : ℕ) (x : Check) → Walkable f p x → finish i m x ≡ finish i n x
     unfolding finish
     finish_agrees p u b i (Kept a) k = refl
     finish_agrees p u b i (Ready j o) k = refl
@@ -209,22 +207,22 @@ module _ {G : PeNumber → Bool} {f g : Tables} (w : Alike G f g) where
     module _ {s t : Live} (r : Same G f.sizes s t) where
       owned_agrees : (q : Request) (o : Owner) → owner f s q ≡ o → owned G o ≡ true → Below f.sizes.pes o
           → finish f.installed m (checked_on f (length n) s q) ≡ finish f.installed n (checked_on f (length n) s q)
-      owned_agrees q (Of p) e u b = finish_agrees p u b f.installed (checked_on f (length n) s q) (checked-walks f (length n) s q p e)
-      owned_agrees q (Nobody x) e u b = clash u refl
+      owned_agrees q (Ok p) e u b = finish_agrees p u b f.installed (checked_on f (length n) s q) (checked-walks f (length n) s q p e)
+      owned_agrees q (Err x) e u b = clash u refl
 
       pub decided_agrees : (q : Request) → belongs G f s q ≡ true → decided f m s q ≡ decided g n t q
       decided_agrees q b =
           rw h.memory_length
           (owned_agrees q (owner f s q) refl b (owner-below f s q)
-          ∙ ap₂ (λ (i : ℕ) (x : Checked). finish i n x) w.installed (checked_agrees w r (length n) q b))
+          ∙ ap₂ (λ (i : ℕ) (x : Check). finish i n x) w.installed (checked_agrees w r (length n) q b))
 
       pub answered_agrees : (q : Request) → belongs G f s q ≡ true → answered f m s q ≡ answered g n t q
       answered_agrees q b = ap (λ (o : Outcome). o.answer) (decided_agrees q b)
 
       acted_agrees : (o : Owner) → Below f.sizes.pes o → owned G o ≡ true → (e : Effect) → Same G f.sizes (act_by f o e s) (act_by g o e t)
       unfolding act_by
-      acted_agrees (Of p) h u e = rw (← w.sizes, ← w.peers) (act_agrees r f.peers p h u e)
-      acted_agrees (Nobody x) h u e = clash u refl
+      acted_agrees (Ok p) h u e = rw (← w.sizes, ← w.peers) (act_agrees r f.peers p h u e)
+      acted_agrees (Err x) h u e = clash u refl
 
       pub after_agrees : (q : Request) → belongs G f s q ≡ true → Same G f.sizes (after f m s q) (after g n t q)
       after_agrees q b = rw (← decided_agrees q b, ← owner_agrees w r q) (acted_agrees (owner f s q) (owner-below f s q) b (decided f m s q).effect)
@@ -235,8 +233,8 @@ module _ {G : PeNumber → Bool} {f : Tables} (c : Closed G f) where
   -- whatever effect it has, but on the fence
   acted_unseen : (s : Live) (o : Owner) → Below f.sizes.pes o → owned G o ≡ false → (e : Effect) → calm e ≡ true → Same G f.sizes s (act_by f o e s)
   unfolding act_by
-  acted_unseen s (Of p) h out e x = act_unseen f.sizes f.peers p h out (λ k b g. c.unlisted p k h b out g) s e x
-  acted_unseen s (Nobody r) h out e x = rw (whole-calm f.sizes.pes e x s) (same_refl s)
+  acted_unseen s (Ok p) h out e x = act_unseen f.sizes f.peers p h out (λ k b g. c.unlisted p k h b out g) s e x
+  acted_unseen s (Err r) h out e x = rw (whole-calm f.sizes.pes e x s) (same_refl s)
 
   pub after_unseen : (s : Live) (q : Request) → belongs G f s q ≡ false → (e : Effect) → calm e ≡ true → Same G f.sizes s (act_by f (owner f s q) e s)
   after_unseen s q out e x = acted_unseen s (owner f s q) (owner-below f s q) out e x
@@ -244,14 +242,14 @@ module _ {G : PeNumber → Bool} {f : Tables} (c : Closed G f) where
 -- ---- the owner in what was checked
 
 -- the PE at which the effect is done, where one is
-abbrev pub Placed : Owner → Checked → Type 0
+abbrev pub Placed : Owner → Check → Type 0
 Placed o (Kept a) = Unit {0}
-Placed o (Ready p x) = o ≡ Of p
-Placed o (Walk p e q) = o ≡ Of p
+Placed o (Ready p x) = o ≡ Ok p
+Placed o (Walk p e q) = o ≡ Ok p
 Placed o (Fences b) = Unit {0}
 
 -- what a request of nobody comes to: its refusal, or the fence cleared
-pub unowned-cases : (P : Checked → Type 0) (q : Request) (r : Reason) → P (Kept (refuse r)) → P (Fences false) → P (unowned q r)
+pub unowned-cases : (P : Check → Type 0) (q : Request) (r : Reason) → P (Kept (refuse r)) → P (Fences false) → P (unowned q r)
 unfolding unowned
 unowned-cases P (Dma q) r k c = k
 unowned-cases P (Load a w) r k c = k
@@ -265,14 +263,14 @@ unowned-cases P FenceClear r k c = c
 unowned-cases P Unnamed r k c = k
 
 module _ (z : Sizes) (installed : ℕ) (requesters entries windows segments : List ℕ) (s : Live) where
-  served-owner : (c : classes.AddressClass) (p : PeNumber) (q : DmaRequest) → Placed (Of p) (served c z.interrupts installed entries s.interrupts p q)
+  served-owner : (c : classes.AddressClass) (p : PeNumber) (q : DmaRequest) → Placed (Ok p) (served c z.interrupts installed entries s.interrupts p q)
   unfolding served by_entry
   served-owner class.Dma p q = by_cases (walks (entry_in entries p (half q.address)) (offset q.address)) (λ o. rw o refl) (λ o. rw o refl)
   served-owner class.Msi32 p q = refl
   served-owner class.Msi64 p q = refl
   served-owner class.Unserved p q = refl
 
-  ask-owner : (p : PeNumber) (q : Request) → Placed (Of p) (ask z installed requesters entries windows segments s p q)
+  ask-owner : (p : PeNumber) (q : Request) → Placed (Ok p) (ask z installed requesters entries windows segments s p q)
   unfolding ask dma_asked
   ask-owner p (Dma q) = by_cases (dma_stopped (at s.state (stop_word p))) (λ o. rw o tt) (λ o. rw o (served-owner (class_of q.address) p q))
   ask-owner p (Load a w) = tt
@@ -287,8 +285,8 @@ module _ (z : Sizes) (installed : ℕ) (requesters entries windows segments : Li
 
   asked-owner : (q : Request) (o : Owner) → Placed o (asked z installed requesters entries windows segments s q o)
   unfolding asked
-  asked-owner q (Of p) = ask-owner p q
-  asked-owner q (Nobody r) = unowned-cases (Placed (Nobody r)) q r tt tt
+  asked-owner q (Ok p) = ask-owner p q
+  asked-owner q (Err r) = unowned-cases (Placed (Err r)) q r tt tt
 
   pub checked-owner : (ok : Bool) (q : Request)
       → Placed (owner_in z requesters windows segments s.interrupts q) (checked z installed requesters entries windows segments s ok q)

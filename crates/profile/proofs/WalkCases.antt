@@ -7,11 +7,10 @@
 --     Translating         a memory, an entry, a direction and an offset, and its translation: the address or the fault with its word, and the words read
 --     translations        each way that a translation ends, by the addresses of words; translations_hold: THE STATEMENT over them
 -- Assumes nothing.
-use Rattle.std.specs.Prelude.{◌≡◌, refl, List, [], ◌∷◌, ◌++◌, map, ℕ, ◌/◌}
+use Rattle.kinds.specs.Lookup.{Translated, fault}
+use Rattle.std.specs.Prelude.{◌≡◌, refl, List, [], ◌∷◌, ◌++◌, map, ℕ, ◌/◌, Ok}
 use Rattle.kinds.specs.declared.answer.Reason.{Reason}
 use Rattle.kinds.specs.declared.answer.Reason.TheVariants.{BadEntry, OutsideWindow, TableWord, OutsideMemory}
-use Rattle.kinds.specs.declared.lookup.Translated.{Translated}
-use Rattle.kinds.specs.declared.lookup.Translated.TheVariants.{To, Fault}
 use Rattle.kinds.specs.declared.number.ByteAddress.{ByteAddress}
 use Rattle.kinds.specs.declared.record.TranslationEntry.{TranslationEntry}
 use Rattle.kinds.specs.declared.request.Direction.{Direction}
@@ -148,10 +147,10 @@ translating m b l c p d o x r = record {
 }
 
 abbrev pub to : ℕ → Translated
-to a = To (record { 0 = a })
+to a = Ok (record { 0 = a })
 
-abbrev pub fault : Reason → (word : ℕ) → Translated
-fault r a = Fault r (record { 0 = a })
+abbrev pub faulted : Reason → (word : ℕ) → Translated
+faulted r a = fault r (record { 0 = a })
 
 unfoldable pub translations : List Translating
 translations =
@@ -159,20 +158,20 @@ translations =
     translating chain 0x5000 1 1 1 Read 0x5ABC (to 0x12345ABC) (0x5028 ∷ [])
     ∷ translating chain 0x1000 5 1 1 Write 0x10100C0805ABC (to 0x12345ABC) (0x1008 ∷ 0x2010 ∷ 0x3018 ∷ 0x4020 ∷ 0x5028 ∷ [])
     -- 8: the last word, an upper word, a lower table misaligned
-    ∷ translating (words 0x5028 0x12345002 chain) 0x4000 2 1 1 Read 0x805ABC (fault TableWord 0x5028) (0x4020 ∷ 0x5028 ∷ [])
-    ∷ translating (words 0x4020 0x5000 chain) 0x3000 3 1 1 Read 0xC0805ABC (fault TableWord 0x4020) (0x3018 ∷ 0x4020 ∷ [])
-    ∷ translating (words 0x2008 0x5003 empty) 0x2000 2 2 1 Read 0x403010 (fault TableWord 0x2008) (0x2008 ∷ [])
+    ∷ translating (words 0x5028 0x12345002 chain) 0x4000 2 1 1 Read 0x805ABC (faulted TableWord 0x5028) (0x4020 ∷ 0x5028 ∷ [])
+    ∷ translating (words 0x4020 0x5000 chain) 0x3000 3 1 1 Read 0xC0805ABC (faulted TableWord 0x4020) (0x3018 ∷ 0x4020 ∷ [])
+    ∷ translating (words 0x2008 0x5003 empty) 0x2000 2 2 1 Read 0x403010 (faulted TableWord 0x2008) (0x2008 ∷ [])
     -- 15: the first word, and a later one, which is not among those read
-    ∷ translating empty 0x6000 1 1 1 Read 0x3ABC (fault OutsideMemory 0x6018) []
-    ∷ translating (words 0x4020 0x6001 chain) 0x4000 2 1 1 Write 0x805ABC (fault OutsideMemory 0x6028) (0x4020 ∷ [])
+    ∷ translating empty 0x6000 1 1 1 Read 0x3ABC (faulted OutsideMemory 0x6018) []
+    ∷ translating (words 0x4020 0x6001 chain) 0x4000 2 1 1 Write 0x805ABC (faulted OutsideMemory 0x6028) (0x4020 ∷ [])
     -- bypass, and its 7 and 6
     ∷ translating empty 1 2 1 0 Read 0x1000000 (to 0x1000000) []
-    ∷ translating empty 1 2 1 0 Read 0x2000000 (fault OutsideWindow 0) []
-    ∷ translating empty 2 2 1 0 Read 0x2000000 (fault BadEntry 0) []
+    ∷ translating empty 1 2 1 0 Read 0x2000000 (faulted OutsideWindow 0) []
+    ∷ translating empty 2 2 1 0 Read 0x2000000 (faulted BadEntry 0) []
     -- 7 and 6 of pages; a bad table code
-    ∷ translating empty 0x2000 1 1 1 Read 0x200000 (fault OutsideWindow 0) []
-    ∷ translating empty 0x2000 1 1 2 Read 0x3ABC (fault BadEntry 0) []
-    ∷ translating empty 0x2000 1 0 1 Read 0x3ABC (fault BadEntry 0) []
+    ∷ translating empty 0x2000 1 1 1 Read 0x200000 (faulted OutsideWindow 0) []
+    ∷ translating empty 0x2000 1 1 2 Read 0x3ABC (faulted BadEntry 0) []
+    ∷ translating empty 0x2000 1 0 1 Read 0x3ABC (faulted BadEntry 0) []
     ∷ []
 
 pub translations_hold : map (λ c. translated c.memory c.entry c.direction c.offset) translations ≡ map (λ c. c.translation) translations

@@ -13,17 +13,15 @@
 --     walk-counted        A WALK TO A LAST WORD READS AS MANY WORDS AS THERE ARE LEVELS; pass-counted: so a translation by pages to an address does;
 --                         unwalked-counted: and one without a walk reads none
 -- Assumes nothing.
-use Rattle.std.specs.Prelude.{◌≡◌, refl, Bool, true, false, cond, not, ◌&&◌, ℕ, zero, suc, ◌*◌, ◌^◌, ◌≤◌, leb, ltb, length}
+use Rattle.kinds.specs.declared.lookup.WalkError.TheVariants.{Forbidden, Outside}
+use Rattle.kinds.specs.Lookup.{Found, Translated, frame, fault, forbidden, outside}
+use Rattle.std.specs.Prelude.{◌≡◌, refl, Bool, true, false, cond, not, ◌&&◌, ℕ, zero, suc, ◌*◌, ◌^◌, ◌≤◌, leb, ltb, length, Ok, Err}
 use Rattle.std.proofs.Common.{ap, mul_comm, arith, le-leb, leb-true}
 use mathlib.Core.List.{List, [], ◌∷◌, Memᴰ}
 use Rattle.kinds.specs.Number.{word_address, no_word}
 use Rattle.kinds.proofs.Tests.{by_cases, cond_cases, clash, and_left, and_right, all_true}
 use Rattle.kinds.specs.Words.{at}
 use Rattle.kinds.specs.declared.answer.Reason.TheVariants.{BadEntry, OutsideWindow, TableWord, OutsideMemory}
-use Rattle.kinds.specs.declared.lookup.Found.{Found}
-use Rattle.kinds.specs.declared.lookup.Found.TheVariants.{Frame, Forbidden, Outside}
-use Rattle.kinds.specs.declared.lookup.Translated.{Translated}
-use Rattle.kinds.specs.declared.lookup.Translated.TheVariants.{To, Fault}
 use Rattle.kinds.specs.declared.number.ByteAddress.{ByteAddress}
 use Rattle.kinds.specs.declared.number.PageNumber.{PageNumber}
 use Rattle.kinds.specs.declared.number.PageSize.{PageSize}
@@ -32,14 +30,14 @@ use Rattle.kinds.specs.declared.request.Direction.{Direction}
 use Rattle.profile.specs.Entry.{page_size, page_of, index_bits, span, offset_bits, table_good, bypass, bypass_good, in_bypass, page_tests, pages_good, paged, walkable, walks, unwalked, most_table_code}
 use Rattle.profile.specs.Walk.{Walked, place, next_base, leads, turn, walk_from, walk, allows, landed, by_pages, translated, reads_by}
 
-pub walk_zero : (m : List ℕ) (n : ℕ) (b : ByteAddress) (q : PageNumber) → walk_from m zero n b q ≡ record { found = Forbidden no_word; reads = [] }
+pub walk_zero : (m : List ℕ) (n : ℕ) (b : ByteAddress) (q : PageNumber) → walk_from m zero n b q ≡ record { found = forbidden no_word; reads = [] }
 unfolding walk_from
 walk_zero m n b q = refl
 
 pub walk_suc : (m : List ℕ) (k n : ℕ) (b : ByteAddress) (q : PageNumber) → walk_from m (suc k) n b q
     ≡ cond (ltb (place k n b q) (length m))
     (turn k n (place k n b q) (at m (place k n b q)) (walk_from m k n (next_base (at m (place k n b q))) q))
-    (record { found = Outside (word_address (place k n b q)); reads = [] })
+    (record { found = outside (word_address (place k n b q)); reads = [] })
 unfolding walk_from
 walk_suc m k n b q = refl
 
@@ -83,7 +81,7 @@ pub walk-cases : {P : Type 0} (m : List ℕ) (k n : ℕ) (b : ByteAddress) (q : 
 walk-cases m k n b q i h f g =
     let j = place k n b q in
     let below = walk_from m k n (next_base (at m j)) q in
-    let z : Memᴰ i (cond (ltb j (length m)) (turn k n j (at m j) below) (record { found = Outside (word_address j); reads = [] })).reads = rw (walk_suc m k n b q) at h in
+    let z : Memᴰ i (cond (ltb j (length m)) (turn k n j (at m j) below) (record { found = outside (word_address j); reads = [] })).reads = rw (walk_suc m k n b q) at h in
     by_cases (ltb j (length m))
     (λ o. turn-cases k n j (at m j) below i (rw o at z) f g)
     (λ o. absurd (mathlib.Core.List.Memᴰ.not-nil (rw o at z)))
@@ -120,26 +118,26 @@ module _ (m m' : List ℕ) (same_length : length m ≡ length m') where
 -- ---- the count of a pass
 
 -- a fault of a walk is not a last word
-forbidden_frame : {P : Type 0} {i j : ByteAddress} {x : ℕ} → Forbidden i ≡ Frame j x → P
+forbidden_frame : {P : Type 0} {i j : ByteAddress} {x : ℕ} → forbidden i ≡ frame j x → P
 forbidden_frame e = absurd (let z : ◌≡◌ {A = ℕ} 0 1 = cc in omega arith)
 
-outside_frame : {P : Type 0} {i j : ByteAddress} {x : ℕ} → Outside i ≡ Frame j x → P
+outside_frame : {P : Type 0} {i j : ByteAddress} {x : ℕ} → outside i ≡ frame j x → P
 outside_frame e = absurd (let z : ◌≡◌ {A = ℕ} 0 1 = cc in omega arith)
 
-turn-counted : (k n j w : ℕ) (i : ByteAddress) (x : ℕ) (r : Walked) → (r.found ≡ Frame i x → length r.reads ≡ k) → (turn k n j w r).found ≡ Frame i x
+turn-counted : (k n j w : ℕ) (i : ByteAddress) (x : ℕ) (r : Walked) → (r.found ≡ frame i x → length r.reads ≡ k) → (turn k n j w r).found ≡ frame i x
     → length (turn k n j w r).reads ≡ suc k
 unfolding turn
 turn-counted zero n j w i x r h e = refl
 turn-counted (suc k) n j w i x r h e =
     by_cases (leads n w) (λ o. rw o (ap suc (h (rw o at e)))) (λ o. forbidden_frame (rw o at e))
 
-pub walk-counted : (m : List ℕ) (l n : ℕ) (b : ByteAddress) (q : PageNumber) (i : ByteAddress) (x : ℕ) → (walk_from m l n b q).found ≡ Frame i x
+pub walk-counted : (m : List ℕ) (l n : ℕ) (b : ByteAddress) (q : PageNumber) (i : ByteAddress) (x : ℕ) → (walk_from m l n b q).found ≡ frame i x
     → length (walk_from m l n b q).reads ≡ l
 walk-counted m zero n b q i x e = rw (walk_zero m n b q)
 walk-counted m (suc k) n b q i x e =
     let j = place k n b q in
     let below = walk_from m k n (next_base (at m j)) q in
-    let y : (cond (ltb j (length m)) (turn k n j (at m j) below) (record { found = Outside (word_address j); reads = [] })).found ≡ Frame i x =
+    let y : (cond (ltb j (length m)) (turn k n j (at m j) below) (record { found = outside (word_address j); reads = [] })).found ≡ frame i x =
     rw (walk_suc m k n b q) at e in
     rw (walk_suc m k n b q)
     (by_cases (ltb j (length m))
@@ -147,14 +145,14 @@ walk-counted m (suc k) n b q i x e =
     (λ o. outside_frame (rw o at y)))
 
 -- only a last word lands at an address
-pub landed-cases : (P : Translated → Type 0) → ((a : ByteAddress) → P (To a)) → ((w : ByteAddress) → P (Fault TableWord w)) → ((w : ByteAddress) → P (Fault OutsideMemory w))
+pub landed-cases : (P : Translated → Type 0) → ((a : ByteAddress) → P (Ok a)) → ((w : ByteAddress) → P (fault TableWord w)) → ((w : ByteAddress) → P (fault OutsideMemory w))
     → (s : PageSize) (d : Direction) (o : ByteAddress) (f : Found) → P (landed s d o f)
 unfolding landed
-landed-cases P to forbids missing s d o (Frame j w) = cond_cases P (allows d w) (to _) (forbids j)
-landed-cases P to forbids missing s d o (Forbidden j) = forbids j
-landed-cases P to forbids missing s d o (Outside j) = missing j
+landed-cases P to forbids missing s d o (Ok x) = cond_cases P (allows d x.content) (to _) (forbids x.word)
+landed-cases P to forbids missing s d o (Err (Forbidden j)) = forbids j
+landed-cases P to forbids missing s d o (Err (Outside j)) = missing j
 
-pub unwalked-cases : (P : Translated → Type 0) → ((a : ByteAddress) → P (To a)) → P (Fault BadEntry no_word) → P (Fault OutsideWindow no_word)
+pub unwalked-cases : (P : Translated → Type 0) → ((a : ByteAddress) → P (Ok a)) → P (fault BadEntry no_word) → P (fault OutsideWindow no_word)
     → (e : TranslationEntry) (o : ByteAddress) → P (unwalked e o)
 unfolding unwalked
 unwalked-cases P to bad outside e o =
@@ -162,15 +160,15 @@ unwalked-cases P to bad outside e o =
     (cond_cases P (bypass e) (cond_cases P (bypass_good e) (cond_cases P (in_bypass e o) (to o) outside) bad) (cond_cases P (pages_good e) outside bad))
     bad
 
-landed_frame : {P : Type 0} (s : PageSize) (d : Direction) (o : ByteAddress) (f : Found) (t : ByteAddress) → landed s d o f ≡ To t
-    → ((j : ByteAddress) (x : ℕ) → f ≡ Frame j x → P) → P
+landed_frame : {P : Type 0} (s : PageSize) (d : Direction) (o : ByteAddress) (f : Found) (t : ByteAddress) → landed s d o f ≡ Ok t
+    → ((j : ByteAddress) (x : ℕ) → f ≡ frame j x → P) → P
 unfolding landed
-landed_frame s d o (Frame j w) t e g = g j w refl
-landed_frame s d o (Forbidden j) t e g = absurd (let z : ◌≡◌ {A = ℕ} 0 1 = cc in omega arith)
-landed_frame s d o (Outside j) t e g = absurd (let z : ◌≡◌ {A = ℕ} 0 1 = cc in omega arith)
+landed_frame s d o (Ok x) t e g = g x.word x.content refl
+landed_frame s d o (Err (Forbidden j)) t e g = absurd (let z : ◌≡◌ {A = ℕ} 0 1 = cc in omega arith)
+landed_frame s d o (Err (Outside j)) t e g = absurd (let z : ◌≡◌ {A = ℕ} 0 1 = cc in omega arith)
 
 module _ (m : List ℕ) (e : TranslationEntry) (d : Direction) (o : ByteAddress) where
-  pub pass-counted : walks e o ≡ true → (t : ByteAddress) → (translated m e d o).result ≡ To t → length (translated m e d o).reads ≡ e.levels
+  pub pass-counted : walks e o ≡ true → (t : ByteAddress) → (translated m e d o).result ≡ Ok t → length (translated m e d o).reads ≡ e.levels
   unfolding translated
   pass-counted w t h =
       rw w

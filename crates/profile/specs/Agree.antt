@@ -13,13 +13,12 @@
 --     Reads G f m k       memory word k is read by a walk of a member, a PE below N, for some address of the DMA class, whatever the stop bits are
 --     Held G f m n        memories m and n: their lengths, and every word that a walk of a member reads in the first
 -- Assumes nothing.
-use Rattle.std.specs.Prelude.{◌≡◌, Bool, true, false, cond, ℕ, ◌+◌, ◌*◌, ◌/◌, ◌%◌, ◌<◌, eqb, length}
+use Rattle.kinds.specs.Lookup.{Owner}
+use Rattle.std.specs.Prelude.{◌≡◌, Bool, true, false, cond, ℕ, ◌+◌, ◌*◌, ◌/◌, ◌%◌, ◌<◌, eqb, length, Ok, Err}
 use mathlib.Core.List.{List, Memᴰ}
 use Rattle.std.proofs.Math.Option.{Option, none}
 use Rattle.kinds.specs.Answer.{is_done}
 use Rattle.kinds.specs.Words.{at, bit_of}
-use Rattle.kinds.specs.declared.lookup.Owner.{Owner}
-use Rattle.kinds.specs.declared.lookup.Owner.TheVariants.{Of, Nobody}
 use Rattle.kinds.specs.declared.number.ByteAddress.{ByteAddress}
 use Rattle.kinds.specs.declared.number.PeNumber.{PeNumber}
 use Rattle.kinds.specs.declared.record.Sizes.{Sizes}
@@ -35,8 +34,8 @@ use Rattle.profile.specs.Owner.{owner}
 use Rattle.profile.specs.Step.{answered}
 
 abbrev pub owned : (PeNumber → Bool) → Owner → Bool
-owned G (Of p) = G p
-owned G (Nobody r) = false
+owned G (Ok p) = G p
+owned G (Err r) = false
 
 abbrev pub belongs : (PeNumber → Bool) → Tables → Live → Request → Bool
 belongs G f s q = owned G (owner f s q)

@@ -17,13 +17,12 @@
 --                         base. Every entry that walks is so; walkable_tests e: these tests
 --     unwalked e o        else: bypass, 6 or 7, with no word of memory asked for, so none that failed
 -- Assumes nothing.
-use Rattle.std.specs.Prelude.{Bool, cond, not, ◌&&◌, ◌||◌, List, [], ◌∷◌, ℕ, ◌+◌, ◌*◌, ◌/◌, ◌%◌, ◌^◌, leb, ltb, eqb}
+use Rattle.kinds.specs.Lookup.{Translated, fault}
+use Rattle.std.specs.Prelude.{Bool, cond, not, ◌&&◌, ◌||◌, List, [], ◌∷◌, ℕ, ◌+◌, ◌*◌, ◌/◌, ◌%◌, ◌^◌, leb, ltb, eqb, Ok}
 use Rattle.kinds.specs.Number.{page_bits, page_number, no_word}
 use Rattle.kinds.specs.Tests.{all}
 use Rattle.kinds.specs.Words.{at}
 use Rattle.kinds.specs.declared.answer.Reason.TheVariants.{BadEntry, OutsideWindow}
-use Rattle.kinds.specs.declared.lookup.Translated.{Translated}
-use Rattle.kinds.specs.declared.lookup.Translated.TheVariants.{To, Fault}
 use Rattle.kinds.specs.declared.number.ByteAddress.{ByteAddress}
 use Rattle.kinds.specs.declared.number.PageNumber.{PageNumber}
 use Rattle.kinds.specs.declared.number.PageSize.{PageSize}
@@ -122,6 +121,6 @@ unfoldable pub unwalked : TranslationEntry → (offset : ByteAddress) → Transl
 unwalked e o =
     cond (table_good e)
     (cond (bypass e)
-    (cond (bypass_good e) (cond (in_bypass e o) (To o) (Fault OutsideWindow no_word)) (Fault BadEntry no_word))
-    (cond (pages_good e) (Fault OutsideWindow no_word) (Fault BadEntry no_word)))
-    (Fault BadEntry no_word)
+    (cond (bypass_good e) (cond (in_bypass e o) (Ok o) (fault OutsideWindow no_word)) (fault BadEntry no_word))
+    (cond (pages_good e) (fault OutsideWindow no_word) (fault BadEntry no_word)))
+    (fault BadEntry no_word)

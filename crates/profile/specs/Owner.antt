@@ -9,13 +9,10 @@
 --                         word is in a table too short to hold it
 --     owner f s q         the same of a bridge's tables
 -- Assumes nothing.
-use Rattle.std.specs.Prelude.{cond, List, ℕ, ltb}
+use Rattle.kinds.specs.Lookup.{Owner, Route}
+use Rattle.std.specs.Prelude.{cond, List, ℕ, ltb, Err, Some, None}
 use Rattle.kinds.specs.Words.{pe_at}
 use Rattle.kinds.specs.declared.answer.Reason.TheVariants.{BadRequest, UnknownRequester, NoWindow, BadFirmware}
-use Rattle.kinds.specs.declared.lookup.Hit.{Hit}
-use Rattle.kinds.specs.declared.lookup.Hit.TheVariants.{At, Miss}
-use Rattle.kinds.specs.declared.lookup.Owner.{Owner}
-use Rattle.kinds.specs.declared.lookup.Owner.TheVariants.{Nobody}
 use Rattle.kinds.specs.declared.record.Sizes.{Sizes}
 use Rattle.kinds.specs.declared.request.Request.{Request}
 use Rattle.kinds.specs.declared.request.Request.TheVariants.{Dma, Load, Store, Error, Clear, End, Priority, Fatal, FenceClear, Unnamed}
@@ -24,14 +21,14 @@ use Rattle.profile.specs.Msi.{interrupt_in}
 use Rattle.profile.specs.Windows.{route}
 
 abbrev pub of_requester : (pes count : ℕ) → List ℕ → ℕ → Owner
-of_requester n c l r = cond (ltb r c) (named UnknownRequester n (pe_at l r)) (Nobody UnknownRequester)
+of_requester n c l r = cond (ltb r c) (named UnknownRequester n (pe_at l r)) (Err UnknownRequester)
 
 abbrev pub of_interrupt : (pes count : ℕ) → List ℕ → ℕ → Owner
-of_interrupt n c l i = cond (ltb i c) (named BadFirmware n (interrupt_in l i).pe) (Nobody BadFirmware)
+of_interrupt n c l i = cond (ltb i c) (named BadFirmware n (interrupt_in l i).pe) (Err BadFirmware)
 
-abbrev pub of_hit : (pes : ℕ) → Hit → Owner
-of_hit n (At k c) = named NoWindow n k
-of_hit n Miss = Nobody NoWindow
+abbrev pub of_hit : (pes : ℕ) → Route → Owner
+of_hit n (Some h) = named NoWindow n h.pe
+of_hit n None = Err NoWindow
 
 unfoldable pub owner_in : Sizes → (requesters windows segments interrupts : List ℕ) → Request → Owner
 owner_in z r w g l (Dma q) = of_requester z.pes z.requesters r q.requester
@@ -42,8 +39,8 @@ owner_in z r w g l (Clear p c) = named BadFirmware z.pes p
 owner_in z r w g l (End i) = of_interrupt z.pes z.interrupts l i
 owner_in z r w g l (Priority i n) = of_interrupt z.pes z.interrupts l i
 owner_in z r w g l (Fatal q) = of_requester z.pes z.requesters r q
-owner_in z r w g l FenceClear = Nobody BadFirmware
-owner_in z r w g l Unnamed = Nobody BadRequest
+owner_in z r w g l FenceClear = Err BadFirmware
+owner_in z r w g l Unnamed = Err BadRequest
 
 abbrev pub owner : Tables → Live → Request → Owner
 owner f s q = owner_in f.sizes f.requesters f.windows f.segments s.interrupts q

@@ -23,9 +23,11 @@
 --     answered f m s q    the answer
 --     after f m s q       state and interrupts afterwards
 -- Assumes nothing.
-use Rattle.std.specs.Prelude.{Bool, true, false, cond, ◌&&◌, ◌||◌, List, ℕ, ◌+◌, ◌%◌, leb, ltb, eqb, length}
+use Rattle.kinds.specs.Lookup.{Owner, Translated, Route, fault}
+use Rattle.std.specs.Prelude.{Bool, true, false, cond, ◌&&◌, ◌||◌, List, ℕ, ◌+◌, ◌%◌, leb, ltb, eqb, length, Ok, Err, Some, None}
 use Rattle.kinds.specs.Answer.{refuse}
-use Rattle.kinds.specs.Checked.{Checked, Kept, Ready, Walk, Fences}
+use Rattle.kinds.specs.declared.outcome.Check.{Check}
+use Rattle.kinds.specs.declared.outcome.Check.TheVariants.{Kept, Ready, Walk, Fences}
 use Rattle.kinds.specs.Number.{no_word, last_byte}
 use Rattle.kinds.specs.Outcome.{kept, passed, failed, done}
 use Rattle.kinds.specs.Words.{at}
@@ -33,12 +35,6 @@ use Rattle.kinds.specs.declared.answer.Answer.{Answer}
 use Rattle.kinds.specs.declared.answer.Answer.TheVariants.{Pass, Ones, Drop}
 use Rattle.kinds.specs.declared.answer.Reason.{Reason}
 use Rattle.kinds.specs.declared.answer.Reason.TheVariants.{TableLength, BadRequest, DmaStopped, AddressClass, MmioStopped, ErrorMessage, AboveInstalled}
-use Rattle.kinds.specs.declared.lookup.Hit.{Hit}
-use Rattle.kinds.specs.declared.lookup.Hit.TheVariants.{At, Miss}
-use Rattle.kinds.specs.declared.lookup.Owner.{Owner}
-use Rattle.kinds.specs.declared.lookup.Owner.TheVariants.{Of, Nobody}
-use Rattle.kinds.specs.declared.lookup.Translated.{Translated}
-use Rattle.kinds.specs.declared.lookup.Translated.TheVariants.{To, Fault}
 use Rattle.kinds.specs.declared.number.ByteAddress.{ByteAddress}
 use Rattle.kinds.specs.declared.number.PeNumber.{PeNumber}
 use Rattle.kinds.specs.declared.outcome.Effect.{Effect}
@@ -85,20 +81,20 @@ unfoldable pub installed_to : (installed : ℕ) → ByteAddress → (length : �
 installed_to i a n = ltb (last_byte a n).0 i
 
 unfoldable pub last_test : (installed length : ℕ) → Translated → Translated
-last_test i n (To x) = cond (installed_to i x n) (To x) (Fault AboveInstalled no_word)
-last_test i n (Fault r w) = Fault r w
+last_test i n (Ok x) = cond (installed_to i x n) (Ok x) (fault AboveInstalled no_word)
+last_test i n (Err e) = Err e
 
 unfoldable pub outcome_of : PeNumber → ByteAddress → Translated → (words : ℕ) → Outcome
-outcome_of p a (To x) n = passed p x n
-outcome_of p a (Fault r w) n = failed r a n w
+outcome_of p a (Ok x) n = passed p x n
+outcome_of p a (Err e) n = failed e.reason a n e.word
 
 abbrev pub reached : (installed : ℕ) → PeNumber → DmaRequest → Translated → (words : ℕ) → Outcome
 reached i p q t n = outcome_of p q.address (last_test i q.length t) n
 
-unfoldable pub by_entry : (installed : ℕ) → TranslationEntry → PeNumber → DmaRequest → Checked
+unfoldable pub by_entry : (installed : ℕ) → TranslationEntry → PeNumber → DmaRequest → Check
 by_entry i e p q = cond (walks e (offset q.address)) (Walk p e q) (Ready p (reached i p q (unwalked e (offset q.address)) 0))
 
-unfoldable pub served : classes.AddressClass → (count installed : ℕ) → (entries interrupts : List ℕ) → PeNumber → DmaRequest → Checked
+unfoldable pub served : classes.AddressClass → (count installed : ℕ) → (entries interrupts : List ℕ) → PeNumber → DmaRequest → Check
 served class.Dma k i e l p q = by_entry i (entry_in e p (half q.address)) p q
 served class.Msi32 k i e l p q =
     Ready p (msi k l p q.address (number32 q.address q.«data») (msi_formed q.direction q.address q.length))
@@ -106,15 +102,15 @@ served class.Msi64 k i e l p q =
     Ready p (msi k l p q.address (number64 q.address q.«data») (msi_formed q.direction q.address q.length))
 served class.Unserved k i e l p q = Ready p (failed AddressClass q.address 0 no_word)
 
-unfoldable pub dma_asked : (count installed : ℕ) → (entries interrupts : List ℕ) → (stop : ℕ) → PeNumber → DmaRequest → Checked
+unfoldable pub dma_asked : (count installed : ℕ) → (entries interrupts : List ℕ) → (stop : ℕ) → PeNumber → DmaRequest → Check
 dma_asked k i e l w p q = cond (dma_stopped w) (Kept (refuse DmaStopped)) (served (class_of q.address) k i e l p q)
 
 -- a load or store with no window has no PE
-unfoldable pub accessed : Hit → PeNumber → (stop : ℕ) → Answer → Answer
-accessed (At n c) p w stopped = cond (mmio_stopped w) stopped (Pass c p 0)
-accessed Miss p w stopped = stopped
+unfoldable pub accessed : Route → PeNumber → (stop : ℕ) → Answer → Answer
+accessed (Some h) p w stopped = cond (mmio_stopped w) stopped (Pass h.pci p 0)
+accessed None p w stopped = stopped
 
-unfoldable pub unowned : Request → Reason → Checked
+unfoldable pub unowned : Request → Reason → Check
 unowned (Dma q) r = Kept (refuse r)
 unowned (Load a w) r = Kept (refuse r)
 unowned (Store a w) r = Kept (refuse r)
@@ -128,7 +124,7 @@ unowned Unnamed r = Kept (refuse r)
 
 -- N, M and R, the installed size, the tables that are read before the walk, and what is written
 module _ (z : Sizes) (installed : ℕ) (requesters entries windows segments : List ℕ) (s : Live) where
-  unfoldable pub ask : PeNumber → Request → Checked
+  unfoldable pub ask : PeNumber → Request → Check
   ask p (Dma q) = dma_asked z.interrupts installed entries s.interrupts (at s.state (stop_word p)) p q
   ask p (Load a w) = Kept (accessed (route windows segments a) p (at s.state (stop_word p)) (Ones MmioStopped (ones_of w)))
   ask p (Store a w) = Kept (accessed (route windows segments a) p (at s.state (stop_word p)) (Drop MmioStopped))
@@ -140,20 +136,20 @@ module _ (z : Sizes) (installed : ℕ) (requesters entries windows segments : Li
   ask p FenceClear = Fences false
   ask p Unnamed = Kept (refuse BadRequest)
 
-  unfoldable pub asked : Request → Owner → Checked
-  asked q (Of p) = ask p q
-  asked q (Nobody r) = unowned q r
+  unfoldable pub asked : Request → Owner → Check
+  asked q (Ok p) = ask p q
+  asked q (Err r) = unowned q r
 
-  abbrev pub gated : Request → Checked
+  abbrev pub gated : Request → Check
   gated q = cond (barred (at s.state (fence_word z.pes)) q) (Kept (shut q)) (asked q (owner_in z requesters windows segments s.interrupts q))
 
-  unfoldable pub checked : (ok : Bool) → Request → Checked
+  unfoldable pub checked : (ok : Bool) → Request → Check
   checked ok q = cond ok (cond (formed q) (gated q) (Kept (refuse BadRequest))) (Kept (refuse TableLength))
 
 abbrev pub arrived : (installed : ℕ) → PeNumber → DmaRequest → Translation → Outcome
 arrived i p q t = reached i p q t.result (length t.reads)
 
-unfoldable pub finish : (installed : ℕ) → List ℕ → Checked → Outcome
+unfoldable pub finish : (installed : ℕ) → List ℕ → Check → Outcome
 finish i m (Kept a) = kept a
 finish i m (Ready p o) = o
 finish i m (Walk p e q) = arrived i p q (by_pages m e q.direction (offset q.address))
@@ -174,10 +170,10 @@ act n v p (Interrupt i k b) s = record { state = s.state; interrupts = stored p 
 act n v p (Fence b) s = whole n (Fence b) s
 
 unfoldable pub act_by : Tables → Owner → Effect → Live → Live
-act_by f (Of p) e s = act f.sizes.pes f.peers p e s
-act_by f (Nobody r) e s = whole f.sizes.pes e s
+act_by f (Ok p) e s = act f.sizes.pes f.peers p e s
+act_by f (Err r) e s = whole f.sizes.pes e s
 
-abbrev pub checked_on : Tables → (memory : ℕ) → Live → Request → Checked
+abbrev pub checked_on : Tables → (memory : ℕ) → Live → Request → Check
 checked_on f n s q =
     checked f.sizes f.installed f.requesters f.entries f.windows f.segments s (sized f.sizes (lengths f n s)) q
 

@@ -11,11 +11,10 @@
 --     most_pes ..         the limits of N, M, R and memory
 --     named r n k         the PE with number k, or nobody with refusal r: k is a PE where it is below N
 -- Assumes nothing.
-use Rattle.std.specs.Prelude.{Bool, cond, List, [], ◌∷◌, ◌++◌, ℕ, ◌+◌, ◌*◌, leb, ltb, eqb, length}
+use Rattle.kinds.specs.Lookup.{Owner}
+use Rattle.std.specs.Prelude.{Bool, cond, List, [], ◌∷◌, ◌++◌, ℕ, ◌+◌, ◌*◌, leb, ltb, eqb, length, Ok, Err}
 use Rattle.kinds.specs.Tests.{all}
 use Rattle.kinds.specs.declared.answer.Reason.{Reason}
-use Rattle.kinds.specs.declared.lookup.Owner.{Owner}
-use Rattle.kinds.specs.declared.lookup.Owner.TheVariants.{Of, Nobody}
 use Rattle.kinds.specs.declared.record.Sizes.{Sizes}
 use Rattle.kinds.specs.declared.record.Lengths.{Lengths}
 
@@ -107,4 +106,4 @@ unfoldable pub sized : Sizes → Lengths → Bool
 sized z l = all (limits z ++ dma_lengths z l ++ other_lengths z l)
 
 unfoldable pub named : Reason → (pes k : ℕ) → Owner
-named r n k = cond (ltb k n) (Of (record { 0 = k })) (Nobody r)
+named r n k = cond (ltb k n) (Ok (record { 0 = k })) (Err r)

@@ -16,14 +16,12 @@
 --     by_pages m e d o    what is left of the translation where the page table is walked: by that walk
 --     reads_by e m o      the places of the memory words that it reads; reads f m p a: those of PE p for address a
 -- Assumes nothing.
-use Rattle.std.specs.Prelude.{Bool, cond, not, ◌&&◌, List, [], ◌∷◌, ℕ, zero, suc, ◌+◌, ◌*◌, ◌/◌, ◌%◌, ◌^◌, ltb, eqb, length}
+use Rattle.kinds.specs.declared.lookup.WalkError.TheVariants.{Forbidden, Outside}
+use Rattle.kinds.specs.Lookup.{Found, Translated, frame, fault, forbidden, outside}
+use Rattle.std.specs.Prelude.{Bool, cond, not, ◌&&◌, List, [], ◌∷◌, ℕ, zero, suc, ◌+◌, ◌*◌, ◌/◌, ◌%◌, ◌^◌, ltb, eqb, length, Ok, Err}
 use Rattle.kinds.specs.Number.{page_number, byte_address, word_bytes, word_address, no_word}
 use Rattle.kinds.specs.Words.{at}
 use Rattle.kinds.specs.declared.answer.Reason.TheVariants.{TableWord, OutsideMemory}
-use Rattle.kinds.specs.declared.lookup.Found.{Found}
-use Rattle.kinds.specs.declared.lookup.Found.TheVariants.{Frame, Forbidden, Outside}
-use Rattle.kinds.specs.declared.lookup.Translated.{Translated}
-use Rattle.kinds.specs.declared.lookup.Translated.TheVariants.{To, Fault}
 use Rattle.kinds.specs.declared.number.ByteAddress.{ByteAddress}
 use Rattle.kinds.specs.declared.number.PageNumber.{PageNumber}
 use Rattle.kinds.specs.declared.number.PageSize.{PageSize}
@@ -48,16 +46,16 @@ unfoldable pub leads : (bits w : ℕ) → Bool
 leads n w = not (eqb (w % 4) 0) && aligned n (next_base w)
 
 unfoldable pub turn : (below bits place word : ℕ) → Walked → Walked
-turn zero n j w r = record { found = Frame (word_address j) w; reads = j ∷ [] }
+turn zero n j w r = record { found = frame (word_address j) w; reads = j ∷ [] }
 turn (suc k) n j w r =
-    cond (leads n w) (record { found = r.found; reads = j ∷ r.reads }) (record { found = Forbidden (word_address j); reads = j ∷ [] })
+    cond (leads n w) (record { found = r.found; reads = j ∷ r.reads }) (record { found = forbidden (word_address j); reads = j ∷ [] })
 
 unfoldable pub walk_from : List ℕ → (levels bits : ℕ) → ByteAddress → PageNumber → Walked
-walk_from m zero n b q = record { found = Forbidden no_word; reads = [] }
+walk_from m zero n b q = record { found = forbidden no_word; reads = [] }
 walk_from m (suc k) n b q =
     cond (ltb (place k n b q) (length m))
     (turn k n (place k n b q) (at m (place k n b q)) (walk_from m k n (next_base (at m (place k n b q))) q))
-    (record { found = Outside (word_address (place k n b q)); reads = [] })
+    (record { found = outside (word_address (place k n b q)); reads = [] })
 
 abbrev pub walk : List ℕ → TranslationEntry → PageNumber → Walked
 walk m e q = walk_from m e.levels (index_bits e) (record { 0 = e.base }) q
@@ -67,16 +65,16 @@ allows Read w = eqb (w % 2) 1
 allows Write w = eqb (w / 2 % 2) 1
 
 unfoldable pub landed : PageSize → Direction → (offset : ByteAddress) → Found → Translated
-landed s d o (Frame a w) = cond (allows d w) (To (byte_address s (page_number s (record { 0 = w })) o)) (Fault TableWord a)
-landed s d o (Forbidden a) = Fault TableWord a
-landed s d o (Outside a) = Fault OutsideMemory a
+landed s d o (Ok x) = cond (allows d x.content) (Ok (byte_address s (page_number s (record { 0 = x.content })) o)) (fault TableWord x.word)
+landed s d o (Err (Forbidden a)) = fault TableWord a
+landed s d o (Err (Outside a)) = fault OutsideMemory a
 
 pub record Translation : Type 0 where
   pub result : Translated
   pub reads : List ℕ
 
 abbrev pub walked_page : List ℕ → TranslationEntry → PageNumber → Walked
-walked_page m e q = cond (walkable e) (walk m e q) (record { found = Forbidden no_word; reads = [] })
+walked_page m e q = cond (walkable e) (walk m e q) (record { found = forbidden no_word; reads = [] })
 
 unfoldable pub by_pages : List ℕ → TranslationEntry → Direction → (offset : ByteAddress) → Translation
 by_pages m e d o =

@@ -13,10 +13,9 @@
 --                         A word of a PE that a table does not have is no PE's number
 --     ones_of w           all ones of w bytes
 -- Assumes nothing.
-use Rattle.std.specs.Prelude.{Bool, cond, ◌&&◌, ◌||◌, List, ℕ, zero, suc, ◌+◌, ◌-◌, ◌*◌, ◌/◌, ◌%◌, ◌^◌, leb, ltb, eqb}
+use Rattle.kinds.specs.Lookup.{Route, hit}
+use Rattle.std.specs.Prelude.{Bool, cond, ◌&&◌, ◌||◌, List, ℕ, zero, suc, ◌+◌, ◌-◌, ◌*◌, ◌/◌, ◌%◌, ◌^◌, leb, ltb, eqb, None}
 use Rattle.kinds.specs.Words.{at, pe_at}
-use Rattle.kinds.specs.declared.lookup.Hit.{Hit}
-use Rattle.kinds.specs.declared.lookup.Hit.TheVariants.{At, Miss}
 use Rattle.kinds.specs.declared.number.ByteAddress.{ByteAddress}
 use Rattle.kinds.specs.declared.record.Window.{Window}
 use Rattle.profile.specs.Tables.{segment_count}
@@ -58,18 +57,18 @@ window ws k = record {
   pe = pe_at ws (m32_words + (k * m64_words + 3));
 }
 
-unfoldable pub m64 : Window → ByteAddress → Hit → Hit
-m64 w a rest = cond (m64_open w && covers w.base w.size a) (At (m64_pe w a) a) rest
+unfoldable pub m64 : Window → ByteAddress → Route → Route
+m64 w a rest = cond (m64_open w && covers w.base w.size a) (hit (m64_pe w a) a) rest
 
 -- n M64 windows, from number k
-unfoldable pub m64_from : List ℕ → (n k : ℕ) → ByteAddress → Hit
-m64_from ws zero k a = Miss
+unfoldable pub m64_from : List ℕ → (n k : ℕ) → ByteAddress → Route
+m64_from ws zero k a = None
 m64_from ws (suc n) k a = m64 (window ws k) a (m64_from ws n (k + 1) a)
 
-unfoldable pub route : (windows segments : List ℕ) → ByteAddress → Hit
+unfoldable pub route : (windows segments : List ℕ) → ByteAddress → Route
 route ws ss a =
     cond (m32_open (at ws 0) (at ws 1) (at ws 2) && covers (at ws 0) (at ws 1) a)
-    (At (pe_at ss (segment_of (at ws 0) (at ws 1) a)) (record { 0 = a.0 - at ws 0 + at ws 2 }))
+    (hit (pe_at ss (segment_of (at ws 0) (at ws 1) a)) (record { 0 = a.0 - at ws 0 + at ws 2 }))
     (m64_from ws m64_count 0 a)
 
 unfoldable pub ones_of : (width : ℕ) → ℕ

@@ -67,7 +67,7 @@ pub fn start() -> Progress
 
 // Whether the line's buffer has 128 bytes, and no more are pending.
 fn fit(length: usize, pending: usize) -> bool
-    ensures { result ≡ (eqb length line_kept && leb pending line_kept) }
+    ensures { result ≡ eqb length line_kept && leb pending line_kept }
 {
     if length != LINE_KEPT {
         return false;

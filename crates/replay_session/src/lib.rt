@@ -47,7 +47,7 @@ const LAST_COUNT: u64 = 18446744073709551615;
 
 // Whether one more output line can be counted, and `length` bytes have room for it from place `at` on.
 fn has_room(count: u64, length: usize, at: usize) -> bool
-    ensures { result ≡ (ltb count last_count && leb (at + line_most) length) }
+    ensures { result ≡ ltb count last_count && leb (at + line_most) length }
 {
     if LAST_COUNT <= count {
         return false;

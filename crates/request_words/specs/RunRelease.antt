@@ -5,9 +5,8 @@
 --     RunReleased         THE CLAIM: `Released`, with words in the place of requests and answers. Before the run stands any list of requests, those of
 --                         earlier runs
 -- The theorems are in proofs/RunRelease.antt. Assumes nothing.
-use Rattle.std.specs.Prelude.{◌≡◌, true, List, ◌++◌, ℕ, ◌<◌}
+use Rattle.std.specs.Prelude.{◌≡◌, true, List, ◌++◌, ℕ, ◌<◌, Ok}
 use Rattle.kinds.specs.Words.{at}
-use Rattle.kinds.specs.declared.lookup.Owner.TheVariants.{Of}
 use Rattle.kinds.specs.declared.number.PeNumber.{PeNumber}
 use Rattle.kinds.specs.declared.request.Request.{Request}
 use Rattle.history.specs.History.{history, cleared, stop_of, record_of, record_at, Zeros, unfrozen}
@@ -38,5 +37,5 @@ pub record RunReleased : Type 0 where
   -- the first request of a run after the release
   pub release : (a : Bridge) → Zeros a.live → (l r : List Request) (k : PeNumber) → k.0 < a.tables.sizes.pes
       → cleared a.tables k (history (ran a l) r) ≡ true
-      → (w x : List ℕ) → 0 < served w x → owner a.tables (left (ran a l) r) (decoded_at w 0) ≡ Of k
+      → (w x : List ℕ) → 0 < served w x → owner a.tables (left (ran a l) r) (decoded_at w 0) ≡ Ok k
       → answers_first a (left (ran a l) r) w x ≡ answers_first a (unfrozen a.tables.sizes.pes (left (ran a l) r)) w x

@@ -1,8 +1,6 @@
 -- `outcomes::fences` meets its contract. Assumes nothing.
 use borrow.Author.Rules.{rules}
-use Rattle.kinds.specs.Checked.{shown}
 use Rattle.outcomes.proofs.fences.Goals as goal
 
 pub returns : goal.returns
-unfolding shown
 returns c = search rules

@@ -1,8 +1,6 @@
 -- `outcomes::ready` meets its contract. Assumes nothing.
 use borrow.Author.Rules.{rules}
-use Rattle.kinds.specs.Checked.{shown}
 use Rattle.outcomes.proofs.ready.Goals as goal
 
 pub returns : goal.returns
-unfolding shown
 returns c = search rules
