@@ -1,6 +1,5 @@
 // What the bridge answers, and the numbers that stand for it.
-ghost use Rattle.std.specs.Prelude.{◌≡◌, ◌+◌, ◌/◌, ◌≤◌};
-ghost use Rattle.kinds.specs.Answer.{reason_number, numbered};
+ghost use Rattle.std.specs.Prelude.{◌≡◌};
 
 use crate::number::{ByteAddress, PeNumber};
 
@@ -71,58 +70,68 @@ pub struct Numbers {
     pub word: u64,
 }
 
-pub fn reason_number(reason: Reason) -> u64
-    ensures { result ≡ reason_number reason }
-{
-    reason as u64
+impl From<Reason> for u64 {
+    ghost use Rattle.std.specs.Prelude.{◌≡◌};
+    ghost use Rattle.kinds.specs.Answer.{reason_number};
+
+    ghost from_gives = { λ reason number. number ≡ reason_number reason };
+
+    fn from(reason: Reason) -> u64 {
+        reason as u64
+    }
 }
 
-pub fn in_numbers(answer: Answer) -> Numbers
-    ensures { result ≡ numbered answer }
-{
-    match answer {
-        Answer::Pass { address, pe, words } => Numbers {
-            name: 0,
-            reason: 0,
-            value: address.0,
-            words,
-            pe: pe.0 as u64,
-            server: 0,
-            priority: 0,
-            word: 0,
-        },
-        Answer::Msi {
-            number,
-            server,
-            priority,
-        } => Numbers {
-            name: 1,
-            reason: 0,
-            value: number,
-            words: 0,
-            pe: 0,
-            server,
-            priority,
-            word: 0,
-        },
-        Answer::Held { number } => plain(2, 0, number, 0),
-        Answer::Ones { reason, value } => plain(3, reason_number(reason), value, 0),
-        Answer::Drop { reason } => plain(4, reason_number(reason), 0, 0),
-        Answer::Refuse {
-            reason,
-            words,
-            word,
-        } => Numbers {
-            name: 5,
-            reason: reason_number(reason),
-            value: 0,
-            words,
-            pe: 0,
-            server: 0,
-            priority: 0,
-            word: word.0,
-        },
-        Answer::Done => plain(6, 0, 0, 0),
+impl From<Answer> for Numbers {
+    ghost use Rattle.std.specs.Prelude.{◌≡◌};
+    ghost use Rattle.kinds.specs.Answer.{numbered};
+
+    ghost from_gives = { λ answer numbers. numbers ≡ numbered answer };
+
+    fn from(answer: Answer) -> Numbers {
+        match answer {
+            Answer::Pass { address, pe, words } => Numbers {
+                name: 0,
+                reason: 0,
+                value: address.0,
+                words,
+                pe: pe.0 as u64,
+                server: 0,
+                priority: 0,
+                word: 0,
+            },
+            Answer::Msi {
+                number,
+                server,
+                priority,
+            } => Numbers {
+                name: 1,
+                reason: 0,
+                value: number,
+                words: 0,
+                pe: 0,
+                server,
+                priority,
+                word: 0,
+            },
+            Answer::Held { number } => plain(2, 0, number, 0),
+            Answer::Ones { reason, value } => plain(3, u64::from(reason), value, 0),
+            Answer::Drop { reason } => plain(4, u64::from(reason), 0, 0),
+            Answer::Refuse {
+                reason,
+                words,
+                word,
+            } => Numbers {
+                name: 5,
+                reason: u64::from(reason),
+                value: 0,
+                words,
+                pe: 0,
+                server: 0,
+                priority: 0,
+                word: word.0,
+            },
+            Answer::Done => plain(6, 0, 0, 0),
+        }
     }
 }
 

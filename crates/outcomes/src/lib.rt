@@ -10,7 +10,7 @@ use kinds::answer::{Answer, Reason};
 use kinds::number::{ByteAddress, NO_WORD, PeNumber};
 use kinds::outcome::{Check, Effect, ErrorRecord, Outcome};
 use kinds::record::TranslationEntry;
-use kinds::request::{Direction, DmaRequest};
+use kinds::request::DmaRequest;
 
 // A pass: nothing is changed.
 pub fn passed(pe: PeNumber, address: ByteAddress, words: u64) -> Outcome
@@ -106,4 +106,14 @@ pub fn refuse(reason: Reason) -> Check
         words,
         word: NO_WORD,
     })
+}
+
+// What is known of a request, or the refusal in its place.
+pub fn settled(found: Result<Check, Reason>) -> Check
+    ensures { result ≡ spec.settled found }
+{
+    match found {
+        Ok(check) => check,
+        Err(reason) => refuse(reason),
+    }
 }

@@ -1,6 +1,0 @@
--- `outcomes::fences` meets its contract. Assumes nothing.
-use borrow.Author.Rules.{rules}
-use Rattle.outcomes.proofs.fences.Goals as goal
-
-pub returns : goal.returns
-returns c = search rules

@@ -1,6 +1,0 @@
--- `outcomes::ready` meets its contract. Assumes nothing.
-use borrow.Author.Rules.{rules}
-use Rattle.outcomes.proofs.ready.Goals as goal
-
-pub returns : goal.returns
-returns c = search rules

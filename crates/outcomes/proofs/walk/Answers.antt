@@ -1,6 +1,0 @@
--- `outcomes::walk` meets its contract. Assumes nothing.
-use borrow.Author.Rules.{rules}
-use Rattle.outcomes.proofs.walk.Goals as goal
-
-pub returns : goal.returns
-returns c = search rules
