@@ -1,4 +1,2 @@
-pub mod SizeLaws
 pub mod SizedLaws
 pub mod TablesLaws
-pub mod WordLaws

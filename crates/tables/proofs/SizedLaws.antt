@@ -1,7 +1,7 @@
 -- Laws of reason 1.
 --     limits-pes, limits-interrupts       what the tests of N, M and R say of N and of M
 --     sized-pes           where nothing is off the table of 01, N is within its limit
---     sized-is            reason 1 by the three lists of its tests
+--     sized_is            reason 1 by the three lists of its tests
 -- Assumes nothing.
 use Rattle.std.specs.Prelude.{◌≡◌, Bool, true, ◌&&◌, ◌++◌, ◌≤◌}
 use Rattle.std.proofs.Math.Path.{ap}
@@ -24,8 +24,8 @@ module _ (z : Sizes) (l : Lengths) where
   unfolding sized
   sized-pes o = leb-true z.pes most_pes (all_true (limits z ++ dma_lengths z l ++ other_lengths z l) 1 o)
 
-  pub sized-is : sized z l ≡ (all (limits z) && all (dma_lengths z l) && all (other_lengths z l))
+  pub sized_is : sized z l ≡ (all (limits z) && all (dma_lengths z l) && all (other_lengths z l))
   unfolding sized
-  sized-is =
+  sized_is =
       all_append (limits z ++ dma_lengths z l) (other_lengths z l)
       ∙ ap (λ (b : Bool). b && all (other_lengths z l)) (all_append (limits z) (dma_lengths z l))

@@ -35,64 +35,39 @@ pub fn lengths_of(
     }
 }
 
+#[tactic(auto, using(crate::proofs::SizedLaws::sized_is))]
 pub fn sized(sizes: Sizes, lengths: Lengths) -> bool
     ensures { result ≡ sized sizes lengths }
 {
-    if in_limits(sizes) {
-        if dma_tables(sizes, lengths) {
-            return other_tables(sizes, lengths);
-        }
-        return false;
-    }
-    false
+    in_limits(sizes) && dma_tables(sizes, lengths) && other_tables(sizes, lengths)
 }
 
 fn in_limits(sizes: Sizes) -> bool
     ensures { result ≡ all (limits sizes) }
 {
-    if sizes.pes < 1 {
-        return false;
-    }
-    if MOST_PES < sizes.pes {
-        return false;
-    }
-    if MOST_INTERRUPTS < sizes.interrupts {
-        return false;
-    }
-    if sizes.requesters < 1 {
-        return false;
-    }
-    sizes.requesters <= MOST_REQUESTERS
+    1 <= sizes.pes
+        && sizes.pes <= MOST_PES
+        && sizes.interrupts <= MOST_INTERRUPTS
+        && 1 <= sizes.requesters
+        && sizes.requesters <= MOST_REQUESTERS
 }
 
 fn dma_tables(sizes: Sizes, lengths: Lengths) -> bool
     requires { sizes.pes ≤ most_pes }
     ensures { result ≡ all (dma_lengths sizes lengths) }
 {
-    if lengths.requesters != sizes.requesters {
-        return false;
-    }
-    if lengths.entries != sizes.pes * ENTRY_WORDS {
-        return false;
-    }
-    lengths.memory <= MOST_MEMORY
+    lengths.requesters == sizes.requesters
+        && lengths.entries == sizes.pes * ENTRY_WORDS
+        && lengths.memory <= MOST_MEMORY
 }
 
 fn other_tables(sizes: Sizes, lengths: Lengths) -> bool
     requires { (sizes.pes ≤ most_pes) × (sizes.interrupts ≤ most_interrupts) }
     ensures { result ≡ all (other_lengths sizes lengths) }
 {
-    if lengths.peers != sizes.pes * PEER_WORDS {
-        return false;
-    }
-    if lengths.interrupts != sizes.interrupts * INTERRUPT_WORDS {
-        return false;
-    }
-    if lengths.windows != WINDOW_WORDS {
-        return false;
-    }
-    if lengths.segments != SEGMENT_COUNT {
-        return false;
-    }
-    lengths.state == sizes.pes * STATE_WORDS + FENCE_WORDS
+    lengths.peers == sizes.pes * PEER_WORDS
+        && lengths.interrupts == sizes.interrupts * INTERRUPT_WORDS
+        && lengths.windows == WINDOW_WORDS
+        && lengths.segments == SEGMENT_COUNT
+        && lengths.state == sizes.pes * STATE_WORDS + FENCE_WORDS
 }

@@ -7,30 +7,21 @@ use kinds::number::NO_PE;
 pub fn word(table: &[u64], index: usize) -> u64
     ensures { result ≡ at table.now index }
 {
-    if index < table.len() {
-        return table[index];
-    }
-    0
+    table.get(index).copied().unwrap_or(0)
 }
 
 // The number of a PE.
 pub fn pe_word(table: &[u64], index: usize) -> u64
     ensures { result ≡ pe_at table.now index }
 {
-    if index < table.len() {
-        return table[index];
-    }
-    NO_PE
+    table.get(index).copied().unwrap_or(NO_PE)
 }
 
 // The number of a PE in a table of 16-bit words.
 pub fn short_pe_word(table: &[u16], index: usize) -> u64
     ensures { result ≡ pe_at table.now index }
 {
-    if index < table.len() {
-        return table[index] as u64;
-    }
-    NO_PE
+    table.get(index).map_or(NO_PE, |pe| u64::from(*pe))
 }
 
 pub fn put(table: &mut [u64], index: usize, value: u64)

@@ -1,0 +1,52 @@
+// The lent tables as two values: those that no request writes, and those that requests write. Memory is in neither: only a walk is lent it.
+ghost use Rattle.std.specs.Prelude.{◌≡◌};
+ghost use Rattle.profile.specs.Tables.{lengths};
+ghost use Rattle.tables.specs.Lent.{seen};
+
+use kinds::record::{Lengths, Sizes};
+use std::marker::Model;
+
+// The tables that no request writes, with N, M and R and the installed size in bytes.
+#[derive(Drop)]
+pub struct Tables<'a> {
+    pub sizes: Sizes,
+    pub installed: u64,
+    pub requesters: &'a [u16],
+    pub entries: &'a [u64],
+    pub peers: &'a [u64],
+    pub windows: &'a [u64],
+    pub segments: &'a [u16],
+}
+
+impl<'a> Model for Tables<'a> {
+    ghost use Rattle.profile.specs.Tables.{Tables as Fixed};
+
+    ghost Value = { Fixed };
+
+    ghost view = { λ t. record { sizes = t.sizes; installed = t.installed; requesters = t.requesters.now; entries = t.entries.now; peers = t.peers.now; windows = t.windows.now; segments = t.segments.now } };
+}
+
+// The tables that requests write.
+#[derive(Drop)]
+pub struct Live<'a> {
+    pub state: &'a mut [u64],
+    pub interrupts: &'a mut [u64],
+}
+
+impl<'a> Tables<'a> {
+    // The lengths of all lent tables; `memory` is that of memory, in words.
+    pub fn lengths(&self, memory: usize, live: &Live<'_>) -> Lengths
+        ensures { result ≡ lengths self.now memory (seen live.now) }
+    {
+        Lengths {
+            requesters: self.requesters.len() as u64,
+            entries: self.entries.len() as u64,
+            memory: memory as u64,
+            peers: self.peers.len() as u64,
+            interrupts: live.interrupts.len() as u64,
+            windows: self.windows.len() as u64,
+            segments: self.segments.len() as u64,
+            state: live.state.len() as u64,
+        }
+    }
+}
