@@ -5,7 +5,7 @@ pub mod interrupt;
 
 ghost use Rattle.std.specs.Prelude.{◌≡◌};
 ghost use Rattle.kinds.specs.declared.outcome.Check.TheVariants.{Ready};
-ghost use Rattle.kinds.specs.Outcome.{done};
+ghost use Rattle.kinds.specs.Outcome.{done, settled};
 ghost use Rattle.kinds.specs.declared.answer.Reason.TheVariants.{BadFirmware};
 ghost use Rattle.kinds.specs.declared.outcome.Effect.TheVariants.{Release};
 ghost use Rattle.owners.specs.ByOwner.{by_owner};
@@ -15,7 +15,6 @@ ghost use Rattle.profile.specs.Owner.{of_interrupt};
 ghost use Rattle.profile.specs.Tables.{named};
 
 use kinds::answer::Reason;
-use kinds::lookup::Owner;
 use kinds::outcome::{Check, Effect};
 use kinds::request::Part;
 use msi::interrupts;
@@ -23,42 +22,39 @@ use outcomes;
 use owners;
 
 // A clear of a stop bit or of the error record of a PE.
-pub fn clear(pes: u16, pe: u64, part: Part) -> Check
-    ensures { result ≡ by_owner (λ p. Ready p (done (Release part))) (named BadFirmware pes pe) }
+#[tactic(auto, unfolding(owners::specs::ByOwner::by_owner))]
+pub fn clear(pes: u16, pe: u64, part: Part) -> Result<Check, Reason>
+    ensures { settled result ≡ by_owner (λ p. Ready p (done (Release part))) (named BadFirmware pes pe) }
 {
-    match owners::named_pe(Reason::BadFirmware, pes, pe) {
-        Owner::Of(pe) => {
-            let outcome = outcomes::done(Effect::Release { part });
-            outcomes::ready(pe, outcome)
-        }
-        Owner::Nobody(reason) => outcomes::refuse(reason),
-    }
+    let pe = owners::named_pe(Reason::BadFirmware, pes, pe)?;
+    let outcome = outcomes::done(Effect::Release { part });
+    Ok(Check::Ready(pe, outcome))
 }
 
 // The end of an interrupt; `count` is M.
-pub fn end(pes: u16, count: u64, interrupts: &[u64], number: u64) -> Check
-    ensures { result ≡ by_owner (λ p. Ready p (on_good (interrupt_in interrupts.now number) (ends number (interrupt_in interrupts.now number)))) (of_interrupt pes count interrupts.now number) }
+#[tactic(auto, unfolding(owners::specs::ByOwner::by_owner))]
+pub fn end(pes: u16, count: u64, interrupts: &[u64], number: u64) -> Result<Check, Reason>
+    ensures { settled result ≡ by_owner (λ p. Ready p (on_good (interrupt_in interrupts.now number) (ends number (interrupt_in interrupts.now number)))) (of_interrupt pes count interrupts.now number) }
 {
-    match owners::of_interrupt(pes, count, interrupts, number) {
-        Owner::Of(pe) => {
-            let record = interrupts::interrupt_at(interrupts, number);
-            let outcome = interrupt::end_interrupt(number, record);
-            outcomes::ready(pe, outcome)
-        }
-        Owner::Nobody(reason) => outcomes::refuse(reason),
-    }
+    let pe = owners::of_interrupt(pes, count, interrupts, number)?;
+    let record = interrupts::interrupt_at(interrupts, number);
+    let outcome = interrupt::end_interrupt(number, record);
+    Ok(Check::Ready(pe, outcome))
 }
 
 // A new priority of an interrupt; `count` is M.
-pub fn prioritize(pes: u16, count: u64, interrupts: &[u64], number: u64, priority: u64) -> Check
-    ensures { result ≡ by_owner (λ p. Ready p (on_good (interrupt_in interrupts.now number) (prioritized number priority (interrupt_in interrupts.now number)))) (of_interrupt pes count interrupts.now number) }
+#[tactic(auto, unfolding(owners::specs::ByOwner::by_owner))]
+pub fn prioritize(
+    pes: u16,
+    count: u64,
+    interrupts: &[u64],
+    number: u64,
+    priority: u64,
+) -> Result<Check, Reason>
+    ensures { settled result ≡ by_owner (λ p. Ready p (on_good (interrupt_in interrupts.now number) (prioritized number priority (interrupt_in interrupts.now number)))) (of_interrupt pes count interrupts.now number) }
 {
-    match owners::of_interrupt(pes, count, interrupts, number) {
-        Owner::Of(pe) => {
-            let record = interrupts::interrupt_at(interrupts, number);
-            let outcome = interrupt::set_priority(number, priority, record);
-            outcomes::ready(pe, outcome)
-        }
-        Owner::Nobody(reason) => outcomes::refuse(reason),
-    }
+    let pe = owners::of_interrupt(pes, count, interrupts, number)?;
+    let record = interrupts::interrupt_at(interrupts, number);
+    let outcome = interrupt::set_priority(number, priority, record);
+    Ok(Check::Ready(pe, outcome))
 }
