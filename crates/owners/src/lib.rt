@@ -66,6 +66,7 @@ pub fn of_hit(pes: u16, hit: Option<Hit>) -> Result<PeNumber, Reason>
 }
 
 // The PE that a request belongs to, or the refusal that nobody's gets.
+// Kept: the tables one by one, as the C interface lends them to its caller, which has no others.
 #[tactic(auto, unfolding(profile::specs::Owner::owner_in))]
 pub fn owner_of(
     pes: u16,
