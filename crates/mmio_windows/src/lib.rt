@@ -41,15 +41,15 @@ fn segment(base: u64, size: u64, address: ByteAddress) -> u64
 }
 
 // The PE of the segment, and the offset moved to the PCI base.
-fn m32_hit(segments: &[u16], base: u64, size: u64, pci: u64, address: ByteAddress) -> Hit
+fn m32_hit(segments: &[u16], base: u64, size: u64, pci: u64, address: ByteAddress) -> Option<Hit>
     requires { m32_takes base size pci address ≡ true }
     ensures { result ≡ hit (pe_at segments.now (segment_of base size address)) (record { 0 = address.0 - base + pci }) }
 {
     let index = segment(base, size, address) as usize;
-    Hit::At {
+    Some(Hit {
         pe: words::short_pe_word(segments, index),
         pci: ByteAddress(address.0 - base + pci),
-    }
+    })
 }
 
 // M64 window k of the table.
@@ -95,25 +95,25 @@ fn m64_pe(window: Window, address: ByteAddress) -> u64
 }
 
 // The first of the M64 windows that takes the address. An M64 window keeps it.
-fn m64_route(windows: &[u64], address: ByteAddress) -> Hit
+fn m64_route(windows: &[u64], address: ByteAddress) -> Option<Hit>
     ensures { result ≡ m64_from windows.now m64_count 0 address }
 {
     let mut left = M64_COUNT;
     while 0 < left {
         let k = M64_COUNT - left;
         if m64_takes(windows, k, address) {
-            return Hit::At {
+            return Some(Hit {
                 pe: m64_pe(m64_at(windows, k), address),
                 pci: address,
-            };
+            });
         }
         left -= 1;
     }
-    Hit::Miss
+    None
 }
 
 // M32 is asked first.
-pub fn route(windows: &[u64], segments: &[u16], address: ByteAddress) -> Hit
+pub fn route(windows: &[u64], segments: &[u16], address: ByteAddress) -> Option<Hit>
     ensures { result ≡ route windows.now segments.now address }
 {
     let base = words::word(windows, 0);

@@ -6,7 +6,7 @@ ghost use Rattle.profile.specs.Tables.{named};
 ghost use Rattle.profile.specs.Owner.{of_requester, of_interrupt, of_hit, owner_in};
 
 use kinds::answer::Reason;
-use kinds::lookup::{Hit, Owner};
+use kinds::lookup::Hit;
 use kinds::number::PeNumber;
 use kinds::request::Request;
 use mmio_windows;
@@ -14,44 +14,54 @@ use msi::interrupts;
 use tables::words;
 
 // The PE with this number, or nobody.
-pub fn named_pe(reason: Reason, pes: u16, number: u64) -> Owner
+pub fn named_pe(reason: Reason, pes: u16, number: u64) -> Result<PeNumber, Reason>
     ensures { result ≡ named reason pes number }
 {
     if number < pes as u64 {
-        return Owner::Of(PeNumber(number as u16));
+        return Ok(PeNumber(number as u16));
     }
-    Owner::Nobody(reason)
+    Err(reason)
 }
 
 // The PE of a requester; `count` is R.
-pub fn of_requester(pes: u16, count: u64, requesters: &[u16], requester: u64) -> Owner
+pub fn of_requester(
+    pes: u16,
+    count: u64,
+    requesters: &[u16],
+    requester: u64,
+) -> Result<PeNumber, Reason>
     ensures { result ≡ of_requester pes count requesters.now requester }
 {
     if requester < count {
         let pe = words::short_pe_word(requesters, requester as usize);
         return named_pe(Reason::UnknownRequester, pes, pe);
     }
-    Owner::Nobody(Reason::UnknownRequester)
+    Err(Reason::UnknownRequester)
 }
 
 // The PE of an interrupt; `count` is M.
-pub fn of_interrupt(pes: u16, count: u64, interrupts: &[u64], number: u64) -> Owner
+pub fn of_interrupt(
+    pes: u16,
+    count: u64,
+    interrupts: &[u64],
+    number: u64,
+) -> Result<PeNumber, Reason>
     ensures { result ≡ of_interrupt pes count interrupts.now number }
 {
     if number < count {
         let record = interrupts::interrupt_at(interrupts, number);
         return named_pe(Reason::BadFirmware, pes, record.pe);
     }
-    Owner::Nobody(Reason::BadFirmware)
+    Err(Reason::BadFirmware)
 }
 
 // The PE of the window that an address hits.
-pub fn of_hit(pes: u16, hit: Hit) -> Owner
+pub fn of_hit(pes: u16, hit: Option<Hit>) -> Result<PeNumber, Reason>
     ensures { result ≡ of_hit pes hit }
 {
     match hit {
-        Hit::At { pe, pci: _ } => named_pe(Reason::NoWindow, pes, pe),
-        Hit::Miss => Owner::Nobody(Reason::NoWindow),
+        Some(Hit { pe, pci: _ }) => named_pe(Reason::NoWindow, pes, pe),
+        None => Err(Reason::NoWindow),
     }
 }
 
@@ -65,7 +75,7 @@ pub fn owner_of(
     windows: &[u64],
     segments: &[u16],
     request: Request,
-) -> Owner
+) -> Result<PeNumber, Reason>
     ensures { result ≡ owner_in (record { pes = pes; interrupts = interrupt_count; requesters = requester_count }) requesters.now windows.now segments.now interrupts.now request }
 {
     match request {
@@ -86,7 +96,7 @@ pub fn owner_of(
             priority: _,
         } => of_interrupt(pes, interrupt_count, interrupts, interrupt),
         Request::Fatal { requester } => of_requester(pes, requester_count, requesters, requester),
-        Request::FenceClear => Owner::Nobody(Reason::BadFirmware),
-        Request::Unnamed => Owner::Nobody(Reason::BadRequest),
+        Request::FenceClear => Err(Reason::BadFirmware),
+        Request::Unnamed => Err(Reason::BadRequest),
     }
 }
