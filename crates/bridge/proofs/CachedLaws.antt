@@ -45,9 +45,10 @@ module _ (f : Tables) (w : List ℕ) (x : Cached) (l : List ℕ) where
       let next : k + 1 ≡ suc k = omega arith in
       rw (next, put, r.leaves, r.answers, asked) (step k before)
 
-  pub all_served : {n : ℕ} {y : Cached} {v : List ℕ} → n ≡ served w l → cached_ran y v ≡ cached_ran_to f w x l n → RanCached f w x l n y v
-  all_served {n} e h =
-      let r = rw e at h in
+  pub all_served : {n k : ℕ} {y : Cached} {v : List ℕ} → n ≡ served w l → n ≤ k → k ≤ n → cached_ran y v ≡ cached_ran_to f w x l k → RanCached f w x l n y v
+  all_served {n} {k} e high low h =
+      let z : k ≡ served w l = omega (arith, e) in
+      let r = rw z at h in
       record {
         count = e;
         leaves = ap (λ (u : Ran Cached). u.live) r;

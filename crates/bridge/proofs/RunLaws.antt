@@ -55,9 +55,10 @@ module _ (f : Tables) (m w : List ℕ) (s : Live) (l : List ℕ) where
       let says : a ≡ answered f m u (decoded_at w k) = r.answers ∙ rw asked in
       rw (next, left, put, says) (step k before)
 
-  pub all_ran : {n : ℕ} {t : Live} {v : List ℕ} → n ≡ served w l → ran t v ≡ ran_to f m w s l n → RanAll f m w s l n t v
-  all_ran {n} e h =
-      let r = rw e at h in
+  pub all_ran : {n k : ℕ} {t : Live} {v : List ℕ} → n ≡ served w l → n ≤ k → k ≤ n → ran t v ≡ ran_to f m w s l k → RanAll f m w s l n t v
+  all_ran {n} {k} e high low h =
+      let z : k ≡ served w l = omega (arith, e) in
+      let r = rw z at h in
       record {
         count = e;
         leaves = ap (λ (x : RunState). x.live) r;
