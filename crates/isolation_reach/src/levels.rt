@@ -2,7 +2,10 @@
 ghost use Rattle.std.specs.Prelude.{◌≡◌, ◌+◌, ◌*◌, ◌<◌, ℕ, length, replicate};
 ghost use Rattle.std.specs.Option.{unwrap_or};
 ghost use Rattle.isolation_reach.specs.Marks.{index_of, first_of, table_of, leads_to, within, mark_turn, table_turn, marked_in, tables_over, tables_under, marks_from};
+ghost use Rattle.isolation_reach.specs.Room.{Marked};
 
+use crate::marks::Gap;
+use crate::room::Room;
 use dma_pages::page_tables::aligned;
 use isolation_groups::has_mark;
 use kinds::number::ByteAddress;
@@ -118,7 +121,9 @@ fn mark_upper(
     level: Level,
 ) -> usize
     requires { (length tables.old ≡ length memory.now) × (length under.old ≡ length memory.now) }
-    ensures { (marks.new ≡ marked_in (length memory.now) tables.old level.bits level.table level.index 0 marks.old) × (tables.new ≡ tables_under memory.now tables.old level.bits level.table level.index) × (result ≡ leads_to memory.now level.bits (level.table + level.index)) }
+    ensures marks { marks.new ≡ marked_in (length memory.now) tables.old level.bits level.table level.index 0 marks.old }
+    ensures tables { tables.new ≡ tables_under memory.now tables.old level.bits level.table level.index }
+    ensures leads { result ≡ leads_to memory.now level.bits (level.table + level.index) }
 {
     mark_words(tables, marks, memory.len(), level, 0);
     table_lists::clear(under);
@@ -127,34 +132,19 @@ fn mark_upper(
     leads_to(memory, level.bits, level.table, level.index)
 }
 
-// Marks the words that walks read from the table at word `first`, with `levels` levels below it; `count` pages from `page` are not walked.
-pub(crate) fn mark_levels(
-    memory: &[u64],
-    marks: &mut [u64],
-    tables: &mut [u64],
-    under: &mut [u64],
-    bits: u64,
-    page: u64,
-    count: u64,
-    levels: u64,
-    first: usize,
-)
-    requires { (bits < 64) × (bits * levels < 64) × (length tables.old ≡ length memory.now) × (length under.old ≡ length memory.now) }
-    ensures { marks.new ≡ marks_from memory.now bits page count levels (replicate (length memory.now) 0) first marks.old }
+// Marks the words that walks read from the table at word `first`, with `levels` levels below it; the pages of the gap are not walked.
+pub(crate) fn mark_levels(room: &mut Room<'_>, bits: u64, gap: Gap, levels: u64, first: usize)
+    requires { (bits < 64) × (bits * levels < 64) }
+    ensures { Marked room.old room.new (marks_from room.old.memory.now bits gap.page gap.count levels (replicate (length room.old.memory.now) 0) first room.old.marks.now) }
 {
-    table_lists::clear(tables);
+    table_lists::clear(room.tables);
     let mut table = first;
     for above in 0..levels {
-        let index = index_of(bits, levels - above, page);
+        let index = index_of(bits, levels - above, gap.page);
         let level = Level { bits, table, index };
-        table = mark_upper(memory, marks, tables, under, level);
+        table = mark_upper(room.memory, room.marks, room.tables, room.under, level);
     }
-    let index = index_of(bits, 0, page);
-    mark_words(
-        tables,
-        marks,
-        memory.len(),
-        Level { bits, table, index },
-        count,
-    );
+    let index = index_of(bits, 0, gap.page);
+    let level = Level { bits, table, index };
+    mark_words(room.tables, room.marks, room.memory.len(), level, gap.count);
 }
