@@ -2,22 +2,15 @@
 use mathlib.Core.Path.{◌≡◌, sym, ◌∙◌}
 use mathlib.Core.Bool.{Bool, true}
 use mathlib.Core.List.{List}
-use Prim.Native.Nat.{ℕ, ◌+◌, ◌-◌, ◌*◌, ◌/◌, ◌%◌, ◌^◌, ◌<◌, ◌≤◌}
+use Prim.Native.Nat.{ℕ, ◌+◌, ◌-◌, ◌*◌, ◌<◌, ◌≤◌}
 use native.Mathlib.Nat.{mul-le-mul_left}
 use native.Mathlib.Omega.{arith}
-use lib.Bits.{bit_and}
 use lib.ListN.{length, replicate}
-use Rattle.kinds.proofs.Powers.{masked}
 use Rattle.kinds.specs.declared.record.TranslationEntry.{TranslationEntry}
 use Rattle.profile.specs.Entry.{index_bits, paged, most_table_code, code_bits, offset_bits}
 use Rattle.profile.proofs.WalkLaws.{paged-walkable}
 use Rattle.isolation_reach.proofs.MarksLaws.{walkable-code, walkable_bits, paged-level, marks_zero, marks_suc}
 use Rattle.isolation_reach.specs.Marks.{index_of, leads_to, marked_in, tables_under, marks_from}
-
--- ---- places in a table
-
-pub index_is : (n k q : ℕ) → n < 64 → bit_and (q / 2 ^ (n * k)) (1 * 2 ^ n % 2 ^ 64 - 1) ≡ index_of n k q
-index_is n k q h = masked (q / 2 ^ (n * k)) n h
 
 -- the ranges of an entry with pages
 module _ (e : TranslationEntry) {b : Bool} (asked : b ≡ paged e) (o : b ≡ true) where

@@ -22,7 +22,7 @@ struct Level {
 }
 
 // The index of a page in a table of 2^bits words with `below` levels below it.
-#[tactic(auto, using(crate::proofs::MarkingLaws::index_is))]
+#[tactic(auto, using(kinds::proofs::Powers::masked))]
 fn index_of(bits: u64, below: u64, page: u64) -> u64
     requires { (bits < 64) × (bits * below < 64) }
     ensures { result ≡ index_of bits below page }
@@ -32,11 +32,10 @@ fn index_of(bits: u64, below: u64, page: u64) -> u64
 
 // The first word of the table that word j is in.
 #[tactic(auto, unfolding(crate::specs::Marks::first_of))]
-fn first_of(bits: u64, j: u64) -> u64
-    requires { bits < 64 }
-    ensures { result ≡ first_of bits j }
+fn first_of(level: Level, j: u64) -> u64
+    ensures { result ≡ first_of level.bits j }
 {
-    j - index_of(bits, 0, j)
+    j - index_of(level.bits, 0, j)
 }
 
 // The first word of the table that an upper word leads to.
@@ -53,6 +52,7 @@ fn table_of(bits: u64, word: u64) -> Option<usize>
 }
 
 // The first word of the table that the word at an index of the table at word `table` leads to, or the length of memory.
+// Kept: a number for no table, as in the definition, and not an `Option`: no word is there, so that no caller has a case for it.
 #[tactic(auto, unfolding(crate::specs::Marks::leads_to))]
 fn leads_to(memory: &[u64], bits: u64, table: usize, index: u64) -> usize
     ensures { result ≡ leads_to memory.now bits (table + index) }
@@ -70,7 +70,7 @@ fn leads_to(memory: &[u64], bits: u64, table: usize, index: u64) -> usize
 fn within(tables: &[u64], level: Level, count: u64, j: usize) -> bool
     ensures { result ≡ within tables.now level.bits level.table level.index count j }
 {
-    let first = first_of(level.bits, j as u64) as usize;
+    let first = first_of(level, j as u64) as usize;
     let index = index_of(level.bits, 0, j as u64);
     has_mark(tables, first)
         || first == level.table && (index < level.index || count <= index - level.index)
@@ -113,6 +113,7 @@ fn mark_tables(memory: &[u64], tables: &[u64], under: &mut [u64], level: Level)
 }
 
 // A level that has levels below it: marks its words, and `tables` becomes the tables below. The result is the table that the word of the level leads to.
+// Kept: it takes the lists and not the room, by which what `tables` becomes got no proof.
 fn mark_upper(
     memory: &[u64],
     marks: &mut [u64],
