@@ -3,7 +3,6 @@ pub mod FootprintLaws
 pub mod GapLaws
 mod MarkingLaws
 pub mod MarksLaws
-mod MembersLaws
 pub mod PutLaws
 pub mod ReachLaws
 pub mod TableLaws

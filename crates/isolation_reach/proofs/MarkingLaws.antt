@@ -2,22 +2,15 @@
 use mathlib.Core.Path.{◌≡◌, sym, ◌∙◌}
 use mathlib.Core.Bool.{Bool, true}
 use mathlib.Core.List.{List}
-use Prim.Native.Nat.{ℕ, ◌+◌, ◌-◌, ◌*◌, ◌/◌, ◌%◌, ◌^◌, ◌<◌, ◌≤◌}
+use Prim.Native.Nat.{ℕ, ◌+◌, ◌-◌, ◌*◌, ◌<◌, ◌≤◌}
 use native.Mathlib.Nat.{mul-le-mul_left}
 use native.Mathlib.Omega.{arith}
-use lib.Bits.{bit_and}
 use lib.ListN.{length, replicate}
-use Rattle.kinds.proofs.Powers.{masked}
 use Rattle.kinds.specs.declared.record.TranslationEntry.{TranslationEntry}
 use Rattle.profile.specs.Entry.{index_bits, paged, most_table_code, code_bits, offset_bits}
 use Rattle.profile.proofs.WalkLaws.{paged-walkable}
 use Rattle.isolation_reach.proofs.MarksLaws.{walkable-code, walkable_bits, paged-level, marks_zero, marks_suc}
 use Rattle.isolation_reach.specs.Marks.{index_of, leads_to, marked_in, tables_under, marks_from}
-
--- ---- places in a table
-
-pub index_is : (n k q : ℕ) → n < 64 → bit_and (q / 2 ^ (n * k)) (1 * 2 ^ n % 2 ^ 64 - 1) ≡ index_of n k q
-index_is n k q h = masked (q / 2 ^ (n * k)) n h
 
 -- the ranges of an entry with pages
 module _ (e : TranslationEntry) {b : Bool} (asked : b ≡ paged e) (o : b ≡ true) where
@@ -38,15 +31,15 @@ module _ (e : TranslationEntry) {b : Bool} (asked : b ≡ paged e) (o : b ≡ tr
 
 -- ---- the levels
 
--- `above` levels are done
+-- `above` levels are done, in a room with memory k
 module _ (m : List ℕ) (n q c l f : ℕ) (s : List ℕ) (above : ℕ) (t : List ℕ) (x : ℕ) (r : List ℕ)
-    (same : marks_from m n q c l (replicate (length m) 0) f s ≡ marks_from m n q c (l - above) t x r) where
-  pub levels_next : {i y : ℕ} {u p : List ℕ} → above < l → i ≡ index_of n (l - above) q → p ≡ marked_in (length m) t n x i 0 r → u ≡ tables_under m t n x i
-      → y ≡ leads_to m n (x + i) → marks_from m n q c l (replicate (length m) 0) f s ≡ marks_from m n q c (l - (above + 1)) u y p
+    (same : marks_from m n q c l (replicate (length m) 0) f s ≡ marks_from m n q c (l - above) t x r) (k : List ℕ) (memory : k ≡ m) where
+  pub levels_next : {i y : ℕ} {u p : List ℕ} → above < l → i ≡ index_of n (l - above) q → p ≡ marked_in (length k) t n x i 0 r → u ≡ tables_under k t n x i
+      → y ≡ leads_to k n (x + i) → marks_from m n q c l (replicate (length m) 0) f s ≡ marks_from m n q c (l - (above + 1)) u y p
   levels_next h i g v e =
       let less : l - above - 1 ≡ l - (above + 1) = omega arith in
-      same ∙ marks_suc m n q c (l - above) t x r (omega arith) ∙ rw (← i, ← g, ← v, ← e, less)
+      same ∙ marks_suc m n q c (l - above) t x r (omega arith) ∙ rw (← memory, ← i, ← g, ← v, ← e, less)
 
-  pub levels_done : {i : ℕ} {p : List ℕ} → l ≤ above → i ≡ index_of n 0 q → p ≡ marked_in (length m) t n x i c r
+  pub levels_done : {i : ℕ} {p : List ℕ} → l ≤ above → i ≡ index_of n 0 q → p ≡ marked_in (length k) t n x i c r
       → p ≡ marks_from m n q c l (replicate (length m) 0) f s
-  levels_done h i g = sym (same ∙ marks_zero m n q c (l - above) t x r (omega arith) ∙ rw (← i, ← g))
+  levels_done h i g = sym (same ∙ marks_zero m n q c (l - above) t x r (omega arith) ∙ rw (← memory, ← i, ← g))

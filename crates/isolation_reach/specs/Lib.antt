@@ -1,2 +1,3 @@
 pub mod Footprint
 pub mod Marks
+pub mod Room

@@ -2,7 +2,10 @@
 ghost use Rattle.std.specs.Prelude.{◌≡◌, ◌+◌, ◌*◌, ◌<◌, ℕ, length, replicate};
 ghost use Rattle.std.specs.Option.{unwrap_or};
 ghost use Rattle.isolation_reach.specs.Marks.{index_of, first_of, table_of, leads_to, within, mark_turn, table_turn, marked_in, tables_over, tables_under, marks_from};
+ghost use Rattle.isolation_reach.specs.Room.{Marked};
 
+use crate::marks::Gap;
+use crate::room::Room;
 use dma_pages::page_tables::aligned;
 use isolation_groups::has_mark;
 use kinds::number::ByteAddress;
@@ -19,7 +22,7 @@ struct Level {
 }
 
 // The index of a page in a table of 2^bits words with `below` levels below it.
-#[tactic(auto, using(crate::proofs::MarkingLaws::index_is))]
+#[tactic(auto, using(kinds::proofs::Powers::masked))]
 fn index_of(bits: u64, below: u64, page: u64) -> u64
     requires { (bits < 64) × (bits * below < 64) }
     ensures { result ≡ index_of bits below page }
@@ -29,11 +32,10 @@ fn index_of(bits: u64, below: u64, page: u64) -> u64
 
 // The first word of the table that word j is in.
 #[tactic(auto, unfolding(crate::specs::Marks::first_of))]
-fn first_of(bits: u64, j: u64) -> u64
-    requires { bits < 64 }
-    ensures { result ≡ first_of bits j }
+fn first_of(level: Level, j: u64) -> u64
+    ensures { result ≡ first_of level.bits j }
 {
-    j - index_of(bits, 0, j)
+    j - index_of(level.bits, 0, j)
 }
 
 // The first word of the table that an upper word leads to.
@@ -50,6 +52,7 @@ fn table_of(bits: u64, word: u64) -> Option<usize>
 }
 
 // The first word of the table that the word at an index of the table at word `table` leads to, or the length of memory.
+// Kept: a number for no table, as in the definition, and not an `Option`: no word is there, so that no caller has a case for it.
 #[tactic(auto, unfolding(crate::specs::Marks::leads_to))]
 fn leads_to(memory: &[u64], bits: u64, table: usize, index: u64) -> usize
     ensures { result ≡ leads_to memory.now bits (table + index) }
@@ -67,7 +70,7 @@ fn leads_to(memory: &[u64], bits: u64, table: usize, index: u64) -> usize
 fn within(tables: &[u64], level: Level, count: u64, j: usize) -> bool
     ensures { result ≡ within tables.now level.bits level.table level.index count j }
 {
-    let first = first_of(level.bits, j as u64) as usize;
+    let first = first_of(level, j as u64) as usize;
     let index = index_of(level.bits, 0, j as u64);
     has_mark(tables, first)
         || first == level.table && (index < level.index || count <= index - level.index)
@@ -110,6 +113,7 @@ fn mark_tables(memory: &[u64], tables: &[u64], under: &mut [u64], level: Level)
 }
 
 // A level that has levels below it: marks its words, and `tables` becomes the tables below. The result is the table that the word of the level leads to.
+// Kept: it takes the lists and not the room, by which what `tables` becomes got no proof.
 fn mark_upper(
     memory: &[u64],
     marks: &mut [u64],
@@ -118,7 +122,9 @@ fn mark_upper(
     level: Level,
 ) -> usize
     requires { (length tables.old ≡ length memory.now) × (length under.old ≡ length memory.now) }
-    ensures { (marks.new ≡ marked_in (length memory.now) tables.old level.bits level.table level.index 0 marks.old) × (tables.new ≡ tables_under memory.now tables.old level.bits level.table level.index) × (result ≡ leads_to memory.now level.bits (level.table + level.index)) }
+    ensures marks { marks.new ≡ marked_in (length memory.now) tables.old level.bits level.table level.index 0 marks.old }
+    ensures tables { tables.new ≡ tables_under memory.now tables.old level.bits level.table level.index }
+    ensures leads { result ≡ leads_to memory.now level.bits (level.table + level.index) }
 {
     mark_words(tables, marks, memory.len(), level, 0);
     table_lists::clear(under);
@@ -127,34 +133,19 @@ fn mark_upper(
     leads_to(memory, level.bits, level.table, level.index)
 }
 
-// Marks the words that walks read from the table at word `first`, with `levels` levels below it; `count` pages from `page` are not walked.
-pub(crate) fn mark_levels(
-    memory: &[u64],
-    marks: &mut [u64],
-    tables: &mut [u64],
-    under: &mut [u64],
-    bits: u64,
-    page: u64,
-    count: u64,
-    levels: u64,
-    first: usize,
-)
-    requires { (bits < 64) × (bits * levels < 64) × (length tables.old ≡ length memory.now) × (length under.old ≡ length memory.now) }
-    ensures { marks.new ≡ marks_from memory.now bits page count levels (replicate (length memory.now) 0) first marks.old }
+// Marks the words that walks read from the table at word `first`, with `levels` levels below it; the pages of the gap are not walked.
+pub(crate) fn mark_levels(room: &mut Room<'_>, bits: u64, gap: Gap, levels: u64, first: usize)
+    requires { (bits < 64) × (bits * levels < 64) }
+    ensures { Marked room.old room.new (marks_from room.old.memory.now bits gap.page gap.count levels (replicate (length room.old.memory.now) 0) first room.old.marks.now) }
 {
-    table_lists::clear(tables);
+    table_lists::clear(room.tables);
     let mut table = first;
     for above in 0..levels {
-        let index = index_of(bits, levels - above, page);
+        let index = index_of(bits, levels - above, gap.page);
         let level = Level { bits, table, index };
-        table = mark_upper(memory, marks, tables, under, level);
+        table = mark_upper(room.memory, room.marks, room.tables, room.under, level);
     }
-    let index = index_of(bits, 0, page);
-    mark_words(
-        tables,
-        marks,
-        memory.len(),
-        Level { bits, table, index },
-        count,
-    );
+    let index = index_of(bits, 0, gap.page);
+    let level = Level { bits, table, index };
+    mark_words(room.tables, room.marks, room.memory.len(), level, gap.count);
 }

@@ -4,3 +4,4 @@
 pub mod footprint;
 mod levels;
 pub mod marks;
+mod room;

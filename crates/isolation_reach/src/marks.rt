@@ -2,8 +2,10 @@
 ghost use Rattle.std.specs.Prelude.{◌≡◌, ◌*◌, ◌<◌, ◌≤◌, length};
 ghost use Rattle.profile.specs.Entry.{index_bits, most_table_code, offset_bits};
 ghost use Rattle.isolation_reach.specs.Marks.{gap_at, gap_of, marks_by};
+ghost use Rattle.isolation_reach.specs.Room.{Marked};
 
 use crate::levels;
+use crate::room::Room;
 use dma_pages::page_tables::is_paged;
 use kinds::record::TranslationEntry;
 use profile::limits::CODE_BITS;
@@ -54,33 +56,15 @@ fn gap_of(entry: TranslationEntry, half: u64) -> Gap
     }
 }
 
-// Marks the words that walks by the entry, which is the record `half` of its PE, read. `tables` and `under` are overwritten.
+// Marks the words that walks by the entry, which is the record `half` of its PE, read.
 #[tactic(auto, using(crate::proofs::MarkingLaws::code_most, crate::proofs::MarkingLaws::all_bits, crate::proofs::MarkingLaws::some_level, crate::proofs::MarkingLaws::upper_bits), unfolding(crate::specs::Marks::marks_by))]
-pub(crate) fn mark_entry(
-    memory: &[u64],
-    entry: TranslationEntry,
-    half: u64,
-    marks: &mut [u64],
-    tables: &mut [u64],
-    under: &mut [u64],
-)
-    requires { (length tables.old ≡ length memory.now) × (length under.old ≡ length memory.now) }
-    ensures { marks.new ≡ marks_by memory.now entry half marks.old }
+pub(crate) fn mark_entry(room: &mut Room<'_>, entry: TranslationEntry, half: u64)
+    ensures { Marked room.old room.new (marks_by room.old.memory.now entry half room.old.marks.now) }
 {
     if is_paged(entry) {
         let gap = gap_of(entry, half);
         let bits = entry.table + CODE_BITS;
         let first = (entry.base / 8) as usize;
-        levels::mark_levels(
-            memory,
-            marks,
-            tables,
-            under,
-            bits,
-            gap.page,
-            gap.count,
-            entry.levels - 1,
-            first,
-        );
+        levels::mark_levels(room, bits, gap, entry.levels - 1, first);
     }
 }
