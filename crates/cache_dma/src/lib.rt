@@ -11,6 +11,7 @@ ghost use Rattle.cache_dma.specs.Quick.{quick_for};
 ghost use Rattle.cache_dma.specs.Went.{Went};
 
 use cache_slots;
+use cache_slots::Key;
 use dma;
 use dma_entry::addresses;
 use dma_pages::{page_tables, pages};
@@ -54,8 +55,9 @@ pub fn look(
     let offset = addresses::offset_of(dma.address);
     let page = pages::page_number(size, offset);
     let half = addresses::half_of(dma.address) as u64;
-    let slot = cache_slots::slot_of(pe, half, page);
-    if !cache_slots::is_held(cache, slot, pe, half, page) {
+    let key = Key { pe, half, page };
+    let slot = cache_slots::slot_of(key);
+    if !cache_slots::is_held(cache, slot, key) {
         return None;
     }
     let content = cache_slots::word_of(cache, slot);
@@ -106,8 +108,9 @@ pub fn walk_and_fill(
     let outcome = found_by(installed, pe, dma, size, offset, found, walked.words);
     if is_pass(outcome.answer) {
         let half = addresses::half_of(dma.address) as u64;
-        let slot = cache_slots::slot_of(pe, half, page);
-        cache_slots::fill(cache, slot, pe, half, page, content_of(found));
+        let key = Key { pe, half, page };
+        let slot = cache_slots::slot_of(key);
+        cache_slots::fill(cache, slot, key, content_of(found));
     }
     outcome
 }

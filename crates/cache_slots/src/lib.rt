@@ -11,24 +11,32 @@ use tables::words::{put, word};
 // The words of a slot: PE + 1 (0: the slot is empty), half, page number, last-level word.
 const SLOT_WORDS: usize = limits::SLOT_WORDS as usize;
 
+// What a slot holds: a page of a PE, in the half of its two records that bit 59 of an address picks.
+#[derive(Clone, Copy, Debug, PartialEq, Eq)]
+pub struct Key {
+    pub pe: PeNumber,
+    pub half: u64,
+    pub page: PageNumber,
+}
+
 // The slot that the rule chooses for a page.
 #[tactic(auto, using(crate::proofs::SlotLaws::slot_is))]
-pub fn slot_of(pe: PeNumber, half: u64, page: PageNumber) -> u8
-    ensures { result ≡ slot_of pe half page }
+pub fn slot_of(key: Key) -> u8
+    ensures { result ≡ slot_of key.pe key.half key.page }
 {
-    let record = 2 * u64::from(pe.0) + half % limits::SLOT_COUNT;
-    ((page.0 % limits::SLOT_COUNT + limits::SLOT_FACTOR * record) % limits::SLOT_COUNT) as u8
+    let record = 2 * u64::from(key.pe.0) + key.half % limits::SLOT_COUNT;
+    ((key.page.0 % limits::SLOT_COUNT + limits::SLOT_FACTOR * record) % limits::SLOT_COUNT) as u8
 }
 
 // Whether a slot holds this page.
 #[tactic(auto, unfolding(cache::specs::Slots::holds))]
-pub fn is_held(cache: &[u64], slot: u8, pe: PeNumber, half: u64, page: PageNumber) -> bool
-    ensures { result ≡ holds cache.now slot pe half page }
+pub fn is_held(cache: &[u64], slot: u8, key: Key) -> bool
+    ensures { result ≡ holds cache.now slot key.pe key.half key.page }
 {
     let first = usize::from(slot) * SLOT_WORDS;
-    word(cache, first) == u64::from(pe.0) + 1
-        && word(cache, first + 1) == half
-        && word(cache, first + 2) == page.0
+    word(cache, first) == u64::from(key.pe.0) + 1
+        && word(cache, first + 1) == key.half
+        && word(cache, first + 2) == key.page.0
 }
 
 // The last-level word of a slot.
@@ -40,12 +48,12 @@ pub fn word_of(cache: &[u64], slot: u8) -> u64
 
 // A slot then holds this page, with its word.
 #[tactic(auto, unfolding(cache::specs::Slots::put))]
-pub fn fill(cache: &mut [u64], slot: u8, pe: PeNumber, half: u64, page: PageNumber, value: u64)
-    ensures { cache.new ≡ put cache.old slot pe half page value }
+pub fn fill(cache: &mut [u64], slot: u8, key: Key, value: u64)
+    ensures { cache.new ≡ put cache.old slot key.pe key.half key.page value }
 {
     let first = usize::from(slot) * SLOT_WORDS;
-    put(cache, first, u64::from(pe.0) + 1);
-    put(cache, first + 1, half);
-    put(cache, first + 2, page.0);
+    put(cache, first, u64::from(key.pe.0) + 1);
+    put(cache, first + 1, key.half);
+    put(cache, first + 2, key.page.0);
     put(cache, first + 3, value);
 }

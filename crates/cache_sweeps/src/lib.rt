@@ -9,6 +9,7 @@ ghost use Rattle.cache_sweeps.specs.Drops.{of_entries, of_pe, of_page, any_slot,
 ghost use Rattle.cache_sweeps.specs.Turn.{cleared};
 
 use cache::limits;
+use cache_slots::Key;
 use dma_entry::addresses::{entry_of, half_of, offset_of};
 use dma_pages::page_tables::{is_paged, size_of};
 use dma_pages::pages::page_number;
@@ -42,8 +43,9 @@ pub fn drop_page(entries: &[u64], cache: &mut [u64], pe: PeNumber, address: Byte
     let is_paged = is_paged(entry);
     let half = half_of(address) as u64;
     let page = page_number(size_of(entry), offset_of(address));
-    sweep(cache, |tag, second, third| {
-        is_paged && of_page(u64::from(pe.0), half, page.0, tag, second, third)
+    let key = Key { pe, half, page };
+    sweep(cache, |tag, half, page| {
+        is_paged && of_page(key, tag, half, page)
     });
 }
 
@@ -65,10 +67,10 @@ fn of_pe(pe: u64, tag: u64) -> bool
 
 // The first three words of a slot are those of a page.
 #[tactic(auto, unfolding(crate::specs::Drops::of_page))]
-fn of_page(pe: u64, half: u64, page: u64, tag: u64, second: u64, third: u64) -> bool
-    ensures { result ≡ of_page pe half page tag second third }
+fn of_page(key: Key, tag: u64, half: u64, page: u64) -> bool
+    ensures { result ≡ of_page key.pe.0 key.half key.page.0 tag half page }
 {
-    of_pe(pe, tag) && second == half && third == page
+    of_pe(u64::from(key.pe.0), tag) && half == key.half && page == key.page.0
 }
 
 // The walk of the page that a full slot holds reads a memory word; `pes` is N.
