@@ -25,6 +25,7 @@ use kinds::request::DmaRequest;
 
 // What a DMA comes to by what was found for its page, and the count; `size` is the page size and `offset` that of its address. No memory is lent. The installed size
 // comes first.
+#[inline(always)]
 fn found_by(
     installed: u64,
     pe: PeNumber,
@@ -41,6 +42,7 @@ fn found_by(
 }
 
 // The outcome of a hit whose word permits the DMA; without one the page is walked. No memory is lent. The installed size comes first.
+#[inline(always)]
 #[tactic(auto, unfolding(crate::specs::Quick::quick_for, cache::specs::Cache::is_hit, cache::specs::Cache::found_by))]
 pub fn look(
     installed: u64,
@@ -72,6 +74,7 @@ pub fn look(
     Some(outcome)
 }
 
+#[inline(always)]
 fn is_pass(answer: Answer) -> bool
     ensures { result ≡ is_pass answer }
 {
@@ -79,6 +82,7 @@ fn is_pass(answer: Answer) -> bool
 }
 
 // The word that a walk found; 0 where it found none.
+#[inline(always)]
 fn content_of(found: Result<Frame, WalkError>) -> u64
     ensures { result ≡ content found }
 {
@@ -89,6 +93,7 @@ fn content_of(found: Result<Frame, WalkError>) -> u64
 }
 
 // The walk, the only reader of memory; the slot of its page is filled where the DMA passes.
+#[inline(always)]
 #[tactic(auto, using(crate::proofs::CacheDmaLaws::finish_is), unfolding(cache::specs::Cache::filled))]
 pub fn walk_and_fill(
     installed: u64,

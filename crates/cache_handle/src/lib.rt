@@ -34,6 +34,7 @@ use tables::lent::{Live, Tables};
 const CACHE_WORDS: usize = limits::CACHE_WORDS as usize;
 
 // A check after the cache was looked at: a walk that is a hit whose word permits the DMA is answered here.
+#[inline(always)]
 #[tactic(auto, using(crate::proofs::OperateLaws::a_hit, crate::proofs::OperateLaws::a_miss), unfolding(cache::specs::Cache::looked))]
 fn look(installed: u64, cache: &[u64], check: Check) -> Check
     ensures { result ≡ looked installed cache.now check }
@@ -50,6 +51,7 @@ fn look(installed: u64, cache: &[u64], check: Check) -> Check
 }
 
 // The same where there is a cache.
+#[inline(always)]
 fn look_at<const CACHED: bool>(installed: u64, cache: &[u64], check: Check) -> Check
     ensures { result ≡ either_looked CACHED installed cache.now check }
 {
@@ -61,6 +63,7 @@ fn look_at<const CACHED: bool>(installed: u64, cache: &[u64], check: Check) -> C
 }
 
 // Whether a cache has another length than its own.
+#[inline(always)]
 fn is_misfit<const CACHED: bool>(cache: &[u64]) -> bool
     ensures { result ≡ (CACHED && not (eqb (length cache.now) cache_words)) }
 {
@@ -68,6 +71,7 @@ fn is_misfit<const CACHED: bool>(cache: &[u64]) -> bool
 }
 
 // All checks, and the cache where there is one. No memory is lent: `memory` is its length.
+#[inline(always)]
 pub fn check<const CACHED: bool>(
     tables: &Tables<'_>,
     memory: usize,
@@ -85,6 +89,7 @@ pub fn check<const CACHED: bool>(
 }
 
 // The walk, the only reader of memory; with a cache its slot is filled where the DMA passes.
+#[inline(always)]
 fn walk<const CACHED: bool>(
     tables: &Tables<'_>,
     memory: &[u64],
@@ -103,6 +108,7 @@ fn walk<const CACHED: bool>(
 }
 
 // A request of the bridge with a cache or without one, which then is lent none. Memory is not written.
+#[inline(always)]
 pub fn serve<const CACHED: bool>(
     tables: &Tables<'_>,
     memory: &[u64],
@@ -125,6 +131,7 @@ pub fn serve<const CACHED: bool>(
 }
 
 // N, or reason 1: every number and length is on the table of the profile, and the cache has its length.
+#[inline(always)]
 fn fitted_pes(
     tables: &Tables<'_>,
     memory: usize,
@@ -140,6 +147,7 @@ fn fitted_pes(
 }
 
 // A refusal with no table word read.
+#[inline(always)]
 fn refuse(reason: Reason) -> Answer
     ensures { result ≡ refuse reason }
 {
@@ -151,6 +159,7 @@ fn refuse(reason: Reason) -> Answer
 }
 
 // An edit where reason 1 does not hold; `pes` is N.
+#[inline(always)]
 fn edit(
     pes: u16,
     tables: &Tables<'_>,
@@ -165,6 +174,7 @@ fn edit(
 }
 
 // An invalidate where reason 1 does not hold; `pes` is N.
+#[inline(always)]
 fn invalidate(pes: u16, tables: &Tables<'_>, cache: &mut [u64], scope: Scope) -> Answer
     ensures { Invalidated pes tables.now.entries cache.old scope result cache.new }
 {
@@ -173,6 +183,7 @@ fn invalidate(pes: u16, tables: &Tables<'_>, cache: &mut [u64], scope: Scope) ->
 
 // An operation of a kind that the bridge with a cache alone has: an edit, an invalidate, or words of these kinds that name nothing. State and interrupts are not
 // written. A request is answered here as words that name nothing.
+#[inline(always)]
 pub fn maintain(
     tables: &Tables<'_>,
     memory: &mut [u64],
@@ -193,6 +204,7 @@ pub fn maintain(
 }
 
 // Any operation of the bridge with a cache.
+#[inline(always)]
 pub fn operate(
     tables: &Tables<'_>,
     memory: &mut [u64],

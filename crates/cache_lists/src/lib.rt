@@ -17,6 +17,7 @@ const EDIT: u64 = 9;
 const INVALIDATE: u64 = 10;
 
 // The scope that a number and the numbers after it name.
+#[inline(always)]
 #[tactic(auto, unfolding(cache_words::specs::Operations::decoded_invalidate))]
 fn scope(number: u64, pe: u64, address: u64) -> Option<Scope>
     ensures { unwrap_or (option_map Invalidate result) (Plain Unnamed) ≡ decoded_invalidate number pe address }
@@ -33,6 +34,7 @@ fn scope(number: u64, pe: u64, address: u64) -> Option<Scope>
 }
 
 // The operation that six words name: its kind, and then its numbers.
+#[inline(always)]
 #[tactic(auto, unfolding(cache_words::specs::Operations::decoded_operation))]
 pub fn decode_operation(kind: u64, a: u64, b: u64, c: u64, d: u64, e: u64) -> Operation
     ensures { result ≡ decoded_operation kind a b c d e }
@@ -48,6 +50,7 @@ pub fn decode_operation(kind: u64, a: u64, b: u64, c: u64, d: u64, e: u64) -> Op
 }
 
 // Operation `k` of a list of words; none where its words are not all there.
+#[inline(always)]
 #[tactic(auto, unfolding(cache_words::specs::Operations::operation_in))]
 pub fn operation_at(requests: &[u64], k: usize) -> Operation
     ensures { result ≡ operation_in requests.now k }
@@ -59,6 +62,7 @@ pub fn operation_at(requests: &[u64], k: usize) -> Operation
 }
 
 // Whether request `k` of a list of words is of a kind that the bridge with a cache alone has.
+#[inline(always)]
 #[tactic(auto, unfolding(cache_words::specs::Operations::of_cache_in, cache_words::specs::Operations::of_cache))]
 pub fn is_of_cache(requests: &[u64], k: usize) -> bool
     ensures { result ≡ of_cache_in requests.now k }

@@ -20,6 +20,7 @@ pub struct Key {
 }
 
 // The slot that the rule chooses for a page.
+#[inline(always)]
 #[tactic(auto, using(crate::proofs::SlotLaws::slot_is))]
 pub fn slot_of(key: Key) -> u8
     ensures { result ≡ slot_of key.pe key.half key.page }
@@ -29,6 +30,7 @@ pub fn slot_of(key: Key) -> u8
 }
 
 // Whether a slot holds this page.
+#[inline(always)]
 #[tactic(auto, unfolding(cache::specs::Slots::holds))]
 pub fn is_held(cache: &[u64], slot: u8, key: Key) -> bool
     ensures { result ≡ holds cache.now slot key.pe key.half key.page }
@@ -40,6 +42,7 @@ pub fn is_held(cache: &[u64], slot: u8, key: Key) -> bool
 }
 
 // The last-level word of a slot.
+#[inline(always)]
 pub fn word_of(cache: &[u64], slot: u8) -> u64
     ensures { result ≡ word_of cache.now slot }
 {
@@ -47,6 +50,7 @@ pub fn word_of(cache: &[u64], slot: u8) -> u64
 }
 
 // A slot then holds this page, with its word.
+#[inline(always)]
 #[tactic(auto, unfolding(cache::specs::Slots::put))]
 pub fn fill(cache: &mut [u64], slot: u8, key: Key, value: u64)
     ensures { cache.new ≡ put cache.old slot key.pe key.half key.page value }

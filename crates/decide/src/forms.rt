@@ -10,6 +10,7 @@ use profile::limits::HOLDING;
 const BLOCK: u64 = 4096;
 
 // 1 to 4,096 bytes, all in one block of 4,096.
+#[inline(always)]
 #[tactic(auto, unfolding(profile::specs::Step::dma_formed))]
 fn dma_formed(address: ByteAddress, length: u64) -> bool
     ensures { result ≡ dma_formed address length }
@@ -18,6 +19,7 @@ fn dma_formed(address: ByteAddress, length: u64) -> bool
 }
 
 // Width 1, 2, 4 or 8, and the address a multiple of it.
+#[inline(always)]
 #[tactic(auto, unfolding(profile::specs::Step::access_formed))]
 fn access_formed(address: ByteAddress, width: u64) -> bool
     ensures { result ≡ access_formed address width }
@@ -32,6 +34,7 @@ fn access_formed(address: ByteAddress, width: u64) -> bool
 }
 
 // Whether a request is well formed, as far as it says itself.
+#[inline(always)]
 #[tactic(auto, unfolding(profile::specs::Step::formed))]
 pub(crate) fn is_formed(request: Request) -> bool
     ensures { result ≡ formed request }

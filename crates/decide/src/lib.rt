@@ -31,6 +31,7 @@ use owners;
 use tables::lent::{Live, Tables};
 
 // A DMA, by its requester; `pes` is N.
+#[inline(always)]
 #[tactic(auto, unfolding(owners::specs::ByOwner::by_owner, crate::specs::ByRequester::dma_of))]
 fn by_requester(
     pes: u16,
@@ -50,6 +51,7 @@ fn by_requester(
 }
 
 // An error message of a PE, with its requester.
+#[inline(always)]
 #[tactic(auto, unfolding(crate::specs::ByRequester::message_of))]
 fn message(pe: PeNumber, requester: u64) -> Check
     ensures { result ≡ message_of requester pe }
@@ -63,6 +65,7 @@ fn message(pe: PeNumber, requester: u64) -> Check
 }
 
 // An error message, by its requester; `pes` is N.
+#[inline(always)]
 #[tactic(auto, unfolding(owners::specs::ByOwner::by_owner))]
 fn error_message(pes: u16, tables: &Tables<'_>, requester: u64) -> Result<Check, Reason>
     ensures { settled result ≡ by_owner (message_of requester) (of_requester pes tables.now.sizes.requesters tables.now.requesters requester) }
@@ -72,6 +75,7 @@ fn error_message(pes: u16, tables: &Tables<'_>, requester: u64) -> Result<Check,
 }
 
 // A fatal message, by its requester; `pes` is N.
+#[inline(always)]
 #[tactic(auto, unfolding(owners::specs::ByOwner::by_owner))]
 fn fatal_message(pes: u16, tables: &Tables<'_>, requester: u64) -> Result<Check, Reason>
     ensures { settled result ≡ by_owner (λ _. Fences true) (of_requester pes tables.now.sizes.requesters tables.now.requesters requester) }
@@ -81,6 +85,7 @@ fn fatal_message(pes: u16, tables: &Tables<'_>, requester: u64) -> Result<Check,
 }
 
 // A load or store, by its window; `stopped` is its answer where the PE is MMIO stopped.
+#[inline(always)]
 fn access(
     pes: u16,
     tables: &Tables<'_>,
@@ -96,6 +101,7 @@ fn access(
 
 // A request that is well formed; `pes` is N. The fence is asked for in the arms of the kinds that it stops. Asked for before the `match`, it would
 // cost every request a second look for its kind.
+#[inline(always)]
 fn ask(
     fenced: bool,
     pes: u16,
@@ -148,6 +154,7 @@ fn ask(
     }
 }
 
+#[inline(always)]
 fn is_fenced(tables: &Tables<'_>, live: &Live<'_>) -> bool
     ensures { result ≡ fenced (at (seen live.now).state (fence_word tables.now.sizes.pes)) }
 {
@@ -155,6 +162,7 @@ fn is_fenced(tables: &Tables<'_>, live: &Live<'_>) -> bool
 }
 
 // Reason 1, then 2, then the rest; `memory` is the length of memory.
+#[inline(always)]
 fn pass_checks(
     tables: &Tables<'_>,
     memory: usize,
@@ -171,6 +179,7 @@ fn pass_checks(
 }
 
 // All checks before the walk. No memory is lent: `memory` is its length.
+#[inline(always)]
 pub fn check(tables: &Tables<'_>, memory: usize, live: &Live<'_>, request: Request) -> Check
     ensures { result ≡ checked_on tables.now memory (seen live.now) request }
 {
@@ -178,6 +187,7 @@ pub fn check(tables: &Tables<'_>, memory: usize, live: &Live<'_>, request: Reque
 }
 
 // What is left after the checks: the walk, the only reader of memory. The installed size comes first.
+#[inline(always)]
 #[tactic(auto, unfolding(profile::specs::Step::finish))]
 pub fn finish(installed: u64, memory: &[u64], check: Check) -> Outcome
     ensures { result ≡ finish installed memory.now check }
@@ -194,6 +204,7 @@ pub fn finish(installed: u64, memory: &[u64], check: Check) -> Outcome
 }
 
 // The answer to a request and its effect, whatever the lengths of the tables.
+#[inline(always)]
 pub fn decide(tables: &Tables<'_>, memory: &[u64], live: &Live<'_>, request: Request) -> Outcome
     ensures { result ≡ decided tables.now memory.now (seen live.now) request }
 {

@@ -28,6 +28,7 @@ use tables::lent::{Live, Tables};
 
 // Whether the last of the bytes from a system address is below the installed size. No sum is made that could pass 2^64 - 1, and the address, which is
 // known last, is compared once.
+#[inline(always)]
 #[tactic(auto, using(crate::proofs::DmaLaws::none_installed, crate::proofs::DmaLaws::room_installed))]
 fn is_installed(installed: u64, address: ByteAddress, length: u64) -> bool
     ensures { result ≡ installed_to installed address length }
@@ -37,6 +38,7 @@ fn is_installed(installed: u64, address: ByteAddress, length: u64) -> bool
 }
 
 // The last test of a DMA, by pages or by a bypass.
+#[inline(always)]
 #[tactic(auto, unfolding(profile::specs::Step::last_test))]
 fn last_test(
     installed: u64,
@@ -57,6 +59,7 @@ fn last_test(
 }
 
 // The outcome by what a translation gave, with the count of words that it read.
+#[inline(always)]
 #[tactic(auto, unfolding(profile::specs::Step::outcome_of))]
 fn outcome_of(
     pe: PeNumber,
@@ -73,6 +76,7 @@ fn outcome_of(
 }
 
 // The same, after the last test.
+#[inline(always)]
 pub fn reached(
     installed: u64,
     pe: PeNumber,
@@ -87,6 +91,7 @@ pub fn reached(
 }
 
 // The outcome of a DMA for which no word of memory is read.
+#[inline(always)]
 fn unwalked(
     installed: u64,
     pe: PeNumber,
@@ -99,6 +104,7 @@ fn unwalked(
 }
 
 // By the entry that the address picks.
+#[inline(always)]
 fn by_entry(installed: u64, entry: TranslationEntry, pe: PeNumber, dma: DmaRequest) -> Check
     ensures { result ≡ by_entry installed entry pe dma }
 {
@@ -119,6 +125,7 @@ fn by_entry(installed: u64, entry: TranslationEntry, pe: PeNumber, dma: DmaReque
 }
 
 // An MSI of a PE, with its number; `count` is M.
+#[inline(always)]
 #[tactic(auto, unfolding(profile::specs::Msi::msi))]
 fn deliver(count: u64, interrupts: &[u64], pe: PeNumber, dma: DmaRequest, number: u64) -> Outcome
     ensures { result ≡ msi count interrupts.now pe dma.address number (msi_formed dma.direction dma.address dma.length) }
@@ -132,6 +139,7 @@ fn deliver(count: u64, interrupts: &[u64], pe: PeNumber, dma: DmaRequest, number
 }
 
 // A DMA of a PE that is not stopped, by the class of its address.
+#[inline(always)]
 #[tactic(auto, unfolding(profile::specs::Step::served))]
 fn by_class(tables: &Tables<'_>, live: &Live<'_>, pe: PeNumber, dma: DmaRequest) -> Check
     ensures { result ≡ served (class_of dma.address) tables.now.sizes.interrupts tables.now.installed tables.now.entries (seen live.now).interrupts pe dma }
@@ -159,6 +167,7 @@ fn by_class(tables: &Tables<'_>, live: &Live<'_>, pe: PeNumber, dma: DmaRequest)
 }
 
 // A DMA of a PE, as far as no memory is read; one of a stopped PE is refused.
+#[inline(always)]
 #[tactic(auto, unfolding(profile::specs::Step::dma_asked))]
 pub fn check_dma(
     tables: &Tables<'_>,
@@ -176,6 +185,7 @@ pub fn check_dma(
 }
 
 // A DMA of a PE by the walk of its page: the only reader of memory. The installed size comes first.
+#[inline(always)]
 #[tactic(auto, unfolding(profile::specs::Step::finish))]
 pub fn finish_walk(
     installed: u64,

@@ -16,6 +16,7 @@ const ENTRY_WORDS: usize = limits::ENTRY_WORDS as usize;
 const RECORD_WORDS: usize = limits::RECORD_WORDS as usize;
 
 // The class of an address, by its top four bits.
+#[inline(always)]
 #[tactic(auto, unfolding(profile::specs::Entry::class_of, crate::specs::Class::low_class))]
 pub fn class_of(address: ByteAddress) -> AddressClass
     ensures { result ≡ class_of address }
@@ -28,6 +29,7 @@ pub fn class_of(address: ByteAddress) -> AddressClass
 }
 
 // Class 0: the 32-bit MSI window is cut out of it.
+#[inline(always)]
 #[tactic(auto, unfolding(crate::specs::Class::low_class))]
 fn low_class(address: ByteAddress) -> AddressClass
     ensures { result ≡ low_class address }
@@ -39,6 +41,7 @@ fn low_class(address: ByteAddress) -> AddressClass
 }
 
 // The low 59 bits of an address.
+#[inline(always)]
 pub fn offset_of(address: ByteAddress) -> ByteAddress
     ensures { result ≡ offset address }
 {
@@ -46,6 +49,7 @@ pub fn offset_of(address: ByteAddress) -> ByteAddress
 }
 
 // Bit 59 of an address: 0 picks the first record of a PE, 1 the second.
+#[inline(always)]
 pub fn half_of(address: ByteAddress) -> usize
     ensures { result ≡ half address }
 {
@@ -53,6 +57,7 @@ pub fn half_of(address: ByteAddress) -> usize
 }
 
 // The record of a PE that an address picks. A word that the table does not have is 0.
+#[inline(always)]
 pub fn entry_of(entries: &[u64], pe: PeNumber, address: ByteAddress) -> TranslationEntry
     ensures { result ≡ entry_in entries.now pe (half address) }
 {

@@ -19,6 +19,7 @@ pub enum Way {
 }
 
 // A bad entry, and an offset outside the window of a good one, are refused for that reason.
+#[inline(always)]
 #[tactic(auto, unfolding(profile::specs::Entry::table_good))]
 pub fn ask(entry: TranslationEntry, offset: ByteAddress) -> Result<Way, Reason>
     ensures { result ≡ asked entry offset }
@@ -34,6 +35,7 @@ pub fn ask(entry: TranslationEntry, offset: ByteAddress) -> Result<Way, Reason>
 }
 
 // An entry whose page code is 0: its first two words are start and end in units of 16 MiB, the end not included.
+#[inline(always)]
 #[tactic(auto, using(crate::proofs::EntryLaws::in_units), unfolding(profile::specs::Entry::bypass_good))]
 fn ask_bypass(entry: TranslationEntry, offset: ByteAddress) -> Result<Way, Reason>
     ensures { result ≡ asked_bypass entry offset }
@@ -52,6 +54,7 @@ fn ask_bypass(entry: TranslationEntry, offset: ByteAddress) -> Result<Way, Reaso
 }
 
 // An entry with another page code.
+#[inline(always)]
 #[tactic(auto, using(crate::proofs::EntryLaws::span_below, crate::proofs::EntryLaws::span_end))]
 fn ask_pages(entry: TranslationEntry, offset: ByteAddress) -> Result<Way, Reason>
     requires { entry.table ≤ 31 }

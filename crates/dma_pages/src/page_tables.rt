@@ -19,6 +19,7 @@ pub struct Shape {
 }
 
 // Whether a base is a multiple of the bytes of a table of 2^bits words.
+#[inline(always)]
 pub fn aligned(bits: u64, base: ByteAddress) -> bool
     ensures { result ≡ aligned bits base }
 {
@@ -29,6 +30,7 @@ pub fn aligned(bits: u64, base: ByteAddress) -> bool
 }
 
 // The page size of an entry; of a page code that is not known it is 256 MiB.
+#[inline(always)]
 #[tactic(auto, unfolding(profile::specs::Entry::page_size))]
 pub fn size_of(entry: TranslationEntry) -> PageSize
     ensures { result ≡ page_size entry }
@@ -37,6 +39,7 @@ pub fn size_of(entry: TranslationEntry) -> PageSize
 }
 
 // Whether the table of an entry can be walked at all.
+#[inline(always)]
 #[tactic(auto, unfolding(profile::specs::Entry::walkable))]
 pub fn is_walkable(entry: TranslationEntry) -> bool
     ensures { result ≡ walkable entry }
@@ -48,6 +51,7 @@ pub fn is_walkable(entry: TranslationEntry) -> bool
 }
 
 // The shape that an entry gives its table; one that is bad, or whose table code is above the largest, gives none.
+#[inline(always)]
 #[tactic(auto, using(crate::proofs::ShapeLaws::known_page, crate::proofs::ShapeLaws::unknown_page), unfolding(profile::specs::Entry::pages_good))]
 pub fn shape_of(entry: TranslationEntry) -> Option<Shape>
     ensures { result ≡ shape_of entry }
@@ -67,6 +71,7 @@ pub fn shape_of(entry: TranslationEntry) -> Option<Shape>
 }
 
 // Whether an entry is good and has pages.
+#[inline(always)]
 #[tactic(auto, using(crate::proofs::ShapeLaws::no_bypass), unfolding(profile::specs::Entry::paged, profile::specs::Entry::table_good))]
 pub fn is_paged(entry: TranslationEntry) -> bool
     ensures { result ≡ paged entry }

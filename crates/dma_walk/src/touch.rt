@@ -11,6 +11,7 @@ use kinds::record::TranslationEntry;
 use profile::limits::CODE_BITS;
 
 // By any entry; by one whose table cannot be walked nothing is read.
+#[inline(always)]
 #[tactic(auto, unfolding(kinds::specs::Has::has))]
 pub fn touches(memory: &[u64], entry: TranslationEntry, page: PageNumber, word: u64) -> bool
     ensures { result ≡ has word (walked_page memory.now entry page).reads }
@@ -19,6 +20,7 @@ pub fn touches(memory: &[u64], entry: TranslationEntry, page: PageNumber, word: 
 }
 
 // By an entry whose table can be walked.
+#[inline(always)]
 fn reads_word(memory: &[u64], entry: TranslationEntry, page: PageNumber, word: u64) -> bool
     requires { Shaped entry }
     ensures { result ≡ has word (walk memory.now entry page).reads }

@@ -20,6 +20,7 @@ pub struct Translation {
 }
 
 // The translation of an offset by the walk of its page, the only reader of memory.
+#[inline(always)]
 #[tactic(auto, unfolding(profile::specs::Walk::by_pages))]
 pub fn translate(
     memory: &[u64],
@@ -38,6 +39,7 @@ pub fn translate(
 }
 
 // What a walk found, for an offset. No memory is lent.
+#[inline(always)]
 #[tactic(auto, using(crate::proofs::TranslateLaws::lands), unfolding(profile::specs::Walk::landed))]
 pub fn land(
     size: PageSize,
@@ -60,6 +62,7 @@ pub fn land(
 }
 
 // The fault of a walk that has no last table word.
+#[inline(always)]
 fn fault_of(error: WalkError) -> Fault
     ensures { result ≡ fault_of error }
 {
@@ -76,6 +79,7 @@ fn fault_of(error: WalkError) -> Fault
 }
 
 // Bit 0 is read-valid, bit 1 write-valid.
+#[inline(always)]
 #[tactic(auto, unfolding(profile::specs::Walk::allows))]
 pub fn allows(direction: Direction, word: u64) -> bool
     ensures { result ≡ allows direction word }

@@ -19,6 +19,7 @@ pub struct Walked {
 }
 
 // The number of the memory word that a page has in the table at `base`, with `below` levels below it.
+#[inline(always)]
 #[tactic(auto, using(crate::proofs::StepLaws::placed))]
 pub(crate) fn place(below: u64, bits: u64, base: ByteAddress, page: PageNumber) -> usize
     requires { (bits ≤ most_table_code + code_bits) × (bits * below < 64) }
@@ -29,6 +30,7 @@ pub(crate) fn place(below: u64, bits: u64, base: ByteAddress, page: PageNumber) 
 }
 
 // Bits 63..12 of an upper word.
+#[inline(always)]
 fn next_base(word: u64) -> ByteAddress
     ensures { result ≡ next_base word }
 {
@@ -36,6 +38,7 @@ fn next_base(word: u64) -> ByteAddress
 }
 
 // The byte address of a memory word.
+#[inline(always)]
 fn word_address(place: u64) -> ByteAddress
     requires { place * word_bytes < 2 ^ 64 }
     ensures { result ≡ word_address place }
@@ -44,6 +47,7 @@ fn word_address(place: u64) -> ByteAddress
 }
 
 // What the content of the memory word at a place gives, with `below` levels below its table.
+#[inline(always)]
 #[tactic(auto, using(crate::proofs::StepLaws::lowest, crate::proofs::StepLaws::upper), unfolding(profile::specs::Walk::leads))]
 fn turn(below: u64, bits: u64, place: u64, content: u64) -> Result<ByteAddress, Walked>
     requires { (bits ≤ most_table_code + code_bits) × (place * word_bytes < 2 ^ 64) }
@@ -67,6 +71,7 @@ fn turn(below: u64, bits: u64, place: u64, content: u64) -> Result<ByteAddress, 
 }
 
 // One level of the walk, with `below` levels below it: the base of the next table, or the end of the walk, with the words that this level read.
+#[inline(always)]
 #[tactic(auto, using(crate::proofs::StepLaws::word_below), unfolding(crate::specs::Turn::stepped))]
 pub(crate) fn step(
     memory: &[u64],
@@ -91,6 +96,7 @@ pub(crate) fn step(
 }
 
 // The walk of a page by an entry whose table can be walked.
+#[inline(always)]
 fn walk(memory: &[u64], entry: TranslationEntry, page: PageNumber) -> Walked
     requires { Shaped entry }
     ensures { result ≡ counted (walk memory.now entry page) }
@@ -115,6 +121,7 @@ fn walk(memory: &[u64], entry: TranslationEntry, page: PageNumber) -> Walked
 }
 
 // The walk of a page by any entry; by one whose table cannot be walked nothing is read.
+#[inline(always)]
 pub fn walk_page(memory: &[u64], entry: TranslationEntry, page: PageNumber) -> Walked
     ensures { result ≡ counted (walked_page memory.now entry page) }
 {

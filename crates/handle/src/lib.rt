@@ -24,6 +24,7 @@ use msi::interrupts;
 use tables::lent::{Live, Tables};
 
 // The peers that a freeze takes with it: those of the PE, or none.
+#[inline(always)]
 fn taken(peers: &[u64], pe: PeNumber, with_peers: bool) -> [u64; 4]
     ensures { result ≡ taken with_peers peers.now pe }
 {
@@ -35,6 +36,7 @@ fn taken(peers: &[u64], pe: PeNumber, with_peers: bool) -> [u64; 4]
 }
 
 // An effect at a PE. N comes first.
+#[inline(always)]
 #[tactic(auto, unfolding(profile::specs::Step::act, profile::specs::Step::whole))]
 pub fn act_at(pes: u64, peers: &[u64], live: &mut Live<'_>, pe: PeNumber, effect: Effect)
     ensures { Becomes live.old live.new (act pes peers.now pe effect (seen live.old)) }
@@ -59,6 +61,7 @@ pub fn act_at(pes: u64, peers: &[u64], live: &mut Live<'_>, pe: PeNumber, effect
 }
 
 // An outcome of a PE: its effect is done, and its answer returned.
+#[inline(always)]
 pub fn carry_out(tables: &Tables<'_>, live: &mut Live<'_>, pe: PeNumber, outcome: Outcome) -> Answer
     ensures answers { result ≡ outcome.answer }
     ensures leaves { Becomes live.old live.new (act tables.now.sizes.pes tables.now.peers pe outcome.effect (seen live.old)) }
@@ -68,6 +71,7 @@ pub fn carry_out(tables: &Tables<'_>, live: &mut Live<'_>, pe: PeNumber, outcome
 }
 
 // The fence bit becomes `bit`, which is done.
+#[inline(always)]
 #[tactic(auto, unfolding(profile::specs::Step::whole))]
 pub fn change_fence(tables: &Tables<'_>, live: &mut Live<'_>, bit: bool) -> Answer
     ensures answers { result ≡ Done }
@@ -78,6 +82,7 @@ pub fn change_fence(tables: &Tables<'_>, live: &mut Live<'_>, bit: bool) -> Answ
 }
 
 // A DMA of a PE by the walk of its page: the only reader of memory.
+#[inline(always)]
 pub fn walk(
     tables: &Tables<'_>,
     memory: &[u64],
@@ -91,6 +96,7 @@ pub fn walk(
 }
 
 // Any request on any tables.
+#[inline(always)]
 pub fn handle(tables: &Tables<'_>, memory: &[u64], live: &mut Live<'_>, request: Request) -> Answer
     ensures handled { Handled tables.now memory.now (seen live.old) request result (seen live.new) }
     ensures same { Same live.old live.new }

@@ -76,6 +76,7 @@ impl From<Reason> for u64 {
 
     ghost from_gives = { λ reason number. number ≡ reason_number reason };
 
+    #[inline(always)]
     fn from(reason: Reason) -> u64 {
         reason as u64
     }
@@ -87,6 +88,7 @@ impl From<Answer> for Numbers {
 
     ghost from_gives = { λ answer numbers. numbers ≡ numbered answer };
 
+    #[inline(always)]
     fn from(answer: Answer) -> Numbers {
         match answer {
             Answer::Pass { address, pe, words } => Numbers {
@@ -136,6 +138,7 @@ impl From<Answer> for Numbers {
 }
 
 // An answer that names no PE, server, priority or table word.
+#[inline(always)]
 fn plain(name: u64, reason: u64, value: u64, words: u64) -> Numbers
     ensures { result ≡ record { name = name; reason = reason; value = value; words = words; pe = 0; server = 0; priority = 0; word = 0 } }
 {

@@ -36,6 +36,7 @@ impl TryFrom<u64> for PageSize {
 
     ghost try_from_gives = { λ code result. result ≡ size_of code };
 
+    #[inline(always)]
     fn try_from(code: u64) -> Result<PageSize, Unnamed> {
         match code {
             1 => Ok(PageSize::K4),

@@ -17,6 +17,7 @@ impl TryFrom<u64> for Direction {
 
     ghost try_from_gives = { λ word result. result ≡ direction_of word };
 
+    #[inline(always)]
     fn try_from(word: u64) -> Result<Direction, Unnamed> {
         match word {
             0 => Ok(Direction::Read),
@@ -52,6 +53,7 @@ impl TryFrom<u64> for Part {
 
     ghost try_from_gives = { λ word result. result ≡ part_of word };
 
+    #[inline(always)]
     fn try_from(word: u64) -> Result<Part, Unnamed> {
         match word {
             0 => Ok(Part::Mmio),

@@ -14,6 +14,7 @@ use msi::interrupts;
 use tables::words;
 
 // The PE with this number, or nobody, for the reason given.
+#[inline(always)]
 #[tactic(auto, unfolding(profile::specs::Tables::named))]
 pub fn named_pe(reason: Reason, pes: u16, number: u64) -> Result<PeNumber, Reason>
     ensures { result ≡ named reason pes number }
@@ -26,6 +27,7 @@ pub fn named_pe(reason: Reason, pes: u16, number: u64) -> Result<PeNumber, Reaso
 }
 
 // The PE of a requester; `count` is R.
+#[inline(always)]
 pub fn of_requester(
     pes: u16,
     count: u64,
@@ -42,6 +44,7 @@ pub fn of_requester(
 }
 
 // The PE of an interrupt; `count` is M.
+#[inline(always)]
 pub fn of_interrupt(
     pes: u16,
     count: u64,
@@ -58,6 +61,7 @@ pub fn of_interrupt(
 }
 
 // The PE of the window that an address hits.
+#[inline(always)]
 pub fn of_hit(pes: u16, hit: Option<Hit>) -> Result<PeNumber, Reason>
     ensures { result ≡ of_hit pes hit }
 {
@@ -67,6 +71,7 @@ pub fn of_hit(pes: u16, hit: Option<Hit>) -> Result<PeNumber, Reason>
 
 // The PE that a request belongs to, or the refusal that nobody's gets.
 // Kept: the tables one by one, as the C interface lends them to its caller, which has no others.
+#[inline(always)]
 #[tactic(auto, unfolding(profile::specs::Owner::owner_in))]
 pub fn owner_of(
     pes: u16,

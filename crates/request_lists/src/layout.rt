@@ -32,6 +32,7 @@ const FATAL: u64 = 7;
 
 const FENCE_CLEAR: u64 = 8;
 
+#[inline(always)]
 #[tactic(auto, unfolding(request_words::specs::Layout::decoded_dma))]
 fn dma(requester: u64, direction: u64, address: u64, length: u64, data: u64) -> Option<Request>
     ensures { unwrap_or result Unnamed ≡ decoded_dma requester direction address length «data» }
@@ -45,6 +46,7 @@ fn dma(requester: u64, direction: u64, address: u64, length: u64, data: u64) -> 
     }))
 }
 
+#[inline(always)]
 #[tactic(auto, unfolding(request_words::specs::Layout::decoded_clear))]
 fn clear(pe: u64, part: u64) -> Option<Request>
     ensures { unwrap_or result Unnamed ≡ decoded_clear pe part }
@@ -54,6 +56,7 @@ fn clear(pe: u64, part: u64) -> Option<Request>
 }
 
 // The request that six words name: its kind, and then its numbers.
+#[inline(always)]
 #[tactic(auto, unfolding(request_words::specs::Layout::decoded))]
 pub fn decode(kind: u64, a: u64, b: u64, c: u64, d: u64, e: u64) -> Request
     ensures { result ≡ decoded kind a b c d e }

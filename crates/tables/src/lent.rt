@@ -38,6 +38,7 @@ pub struct Live<'a> {
 
 impl<'a> Tables<'a> {
     // The lengths of all lent tables; `memory` is that of memory, in words.
+    #[inline(always)]
     pub fn lengths(&self, memory: usize, live: &Live<'_>) -> Lengths
         ensures { result ≡ lengths self.now memory (seen live.now) }
     {
@@ -54,6 +55,7 @@ impl<'a> Tables<'a> {
     }
 
     // N, or reason 1. It does not hold where N, M and R and all lengths are on the table of the profile. `memory` is the length of memory, in words.
+    #[inline(always)]
     pub fn sized_pes(&self, memory: usize, live: &Live<'_>) -> Result<u16, Reason>
         ensures { result ≡ cond (sized self.now.sizes (lengths self.now memory (seen live.now))) (Ok self.now.sizes.pes) (Err TableLength) }
     {

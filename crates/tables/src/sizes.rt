@@ -13,6 +13,7 @@ use profile::limits::{
 };
 
 // The lengths of the lent tables.
+#[inline(always)]
 pub fn lengths_of(
     requesters: &[u16],
     entries: &[u64],
@@ -37,6 +38,7 @@ pub fn lengths_of(
     }
 }
 
+#[inline(always)]
 #[tactic(auto, using(crate::proofs::SizedLaws::sized_is))]
 pub fn sized(sizes: Sizes, lengths: Lengths) -> bool
     ensures { result ≡ sized sizes lengths }
@@ -45,6 +47,7 @@ pub fn sized(sizes: Sizes, lengths: Lengths) -> bool
 }
 
 // N, or reason 1.
+#[inline(always)]
 #[tactic(auto, using(crate::proofs::SizedLaws::pes_fit))]
 pub(crate) fn pes_of(sizes: Sizes, lengths: Lengths) -> Result<u16, Reason>
     ensures { result ≡ cond (sized sizes lengths) (Ok sizes.pes) (Err TableLength) }
@@ -56,6 +59,7 @@ pub(crate) fn pes_of(sizes: Sizes, lengths: Lengths) -> Result<u16, Reason>
     }
 }
 
+#[inline(always)]
 fn in_limits(sizes: Sizes) -> bool
     ensures { result ≡ all (limits sizes) }
 {
@@ -66,6 +70,7 @@ fn in_limits(sizes: Sizes) -> bool
         && sizes.requesters <= MOST_REQUESTERS
 }
 
+#[inline(always)]
 fn dma_tables(sizes: Sizes, lengths: Lengths) -> bool
     requires { sizes.pes ≤ most_pes }
     ensures { result ≡ all (dma_lengths sizes lengths) }
@@ -75,6 +80,7 @@ fn dma_tables(sizes: Sizes, lengths: Lengths) -> bool
         && lengths.memory <= MOST_MEMORY
 }
 
+#[inline(always)]
 fn other_tables(sizes: Sizes, lengths: Lengths) -> bool
     requires { (sizes.pes ≤ most_pes) × (sizes.interrupts ≤ most_interrupts) }
     ensures { result ≡ all (other_lengths sizes lengths) }

@@ -4,6 +4,7 @@ ghost use Rattle.kinds.specs.Words.{at, pe_at};
 
 use kinds::number::NO_PE;
 
+#[inline(always)]
 pub fn word(table: &[u64], index: usize) -> u64
     ensures { result ≡ at table.now index }
 {
@@ -11,6 +12,7 @@ pub fn word(table: &[u64], index: usize) -> u64
 }
 
 // The number of a PE.
+#[inline(always)]
 pub fn pe_word(table: &[u64], index: usize) -> u64
     ensures { result ≡ pe_at table.now index }
 {
@@ -18,12 +20,14 @@ pub fn pe_word(table: &[u64], index: usize) -> u64
 }
 
 // The number of a PE in a table of 16-bit words.
+#[inline(always)]
 pub fn short_pe_word(table: &[u16], index: usize) -> u64
     ensures { result ≡ pe_at table.now index }
 {
     table.get(index).map_or(NO_PE, |pe| u64::from(*pe))
 }
 
+#[inline(always)]
 pub fn put(table: &mut [u64], index: usize, value: u64)
     ensures { table.new ≡ set table.old index value }
 {
