@@ -9,7 +9,7 @@ use kinds::number::{PageNumber, PeNumber};
 use tables::words::{put, word};
 
 // The words of a slot: PE + 1 (0: the slot is empty), half, page number, last-level word.
-const SLOT_WORDS: usize = limits::SLOT_WORDS as usize;
+pub const SLOT_WORDS: usize = limits::SLOT_WORDS as usize;
 
 // What a slot holds: a page of a PE, in the half of its two records that bit 59 of an address picks.
 #[derive(Clone, Copy, Debug, PartialEq, Eq)]

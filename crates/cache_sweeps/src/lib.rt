@@ -8,8 +8,7 @@ ghost use Rattle.cache.specs.Slots.{slot_words, Test, dropped, sweep};
 ghost use Rattle.cache_sweeps.specs.Drops.{of_entries, of_pe, of_page, any_slot, its_slots, page_slot};
 ghost use Rattle.cache_sweeps.specs.Turn.{cleared};
 
-use cache::limits;
-use cache_slots::Key;
+use cache_slots::{Key, SLOT_WORDS};
 use dma_entry::addresses::{entry_of, half_of, offset_of};
 use dma_pages::page_tables::{is_paged, size_of};
 use dma_pages::pages::page_number;
@@ -17,17 +16,14 @@ use dma_walk::touch::touches;
 use kinds::number::{ByteAddress, PageNumber, PeNumber};
 use tables::words::{put, word};
 
-// The words of a slot: PE + 1 (0: the slot is empty), half, page, the last-level word.
-const SLOT_WORDS: usize = limits::SLOT_WORDS as usize;
-
-// All slots are emptied.
+// Each full slot is emptied.
 pub fn drop_all(cache: &mut [u64])
     ensures { cache.new ≡ sweep any_slot cache.old }
 {
     sweep(cache, |_tag, _half, _page| true);
 }
 
-// The slots of a PE are emptied.
+// Each slot of a PE is emptied.
 pub fn drop_pe(cache: &mut [u64], pe: u64)
     ensures { cache.new ≡ sweep (its_slots pe) cache.old }
 {
@@ -49,7 +45,7 @@ pub fn drop_page(entries: &[u64], cache: &mut [u64], pe: PeNumber, address: Byte
     });
 }
 
-// The slots are emptied whose page is walked through a memory word; `pes` is N.
+// Each slot is emptied whose page is walked through a memory word; `pes` is N.
 pub fn drop_through(pes: u16, entries: &[u64], memory: &[u64], cache: &mut [u64], word: u64)
     ensures { cache.new ≡ sweep (through (of_entries pes entries.now) memory.now word) cache.old }
 {
