@@ -82,7 +82,7 @@ unfolding fields_of
 some_field [] e = cc
 some_field (b ∷ l) e = by_cases (eqb b tab) (λ o. let z = rw o at e in cc) (λ o. some_field l (push_empty b (fields_of l) (rw o at e)))
 
-err_is : {A : Type 0} (x : Result A BadLine) → IsErr x → x ≡ Err (record {})
+pub err_is : {A : Type 0} (x : Result A BadLine) → IsErr x → x ≡ Err (record {})
 err_is (Ok a) h = clash h refl
 err_is (Err e) h = refl
 

@@ -1,3 +1,4 @@
 pub mod FieldsLaws
 pub mod NameLaws
 pub mod NumberInLaws
+pub mod ReadLaws

@@ -1,15 +1,15 @@
 -- `text_lines::firmware::read_firmware` meets its contract. Assumes nothing.
-use Rattle.replay_text.proofs.FormLaws as laws
+use Rattle.replay_text.proofs.FormLaws.{picks}
 use Rattle.text_lines.proofs.firmware.read_firmware.Goals as goal
 
 pub returns-then-same : goal.returns-then-same
-returns-then-same c = search laws.picks
+returns-then-same c = search picks
 
 pub returns-then-same-2 : goal.returns-then-same-2
-returns-then-same-2 c = search laws.picks
+returns-then-same-2 c = search picks
 
 pub returns-then-same-3 : goal.returns-then-same-3
-returns-then-same-3 c = search laws.picks
+returns-then-same-3 c = search picks
 
-pub returns : goal.returns
-returns c = search laws.picks
+pub returns-else-same-3 : goal.returns-else-same-3
+returns-else-same-3 c = search picks
