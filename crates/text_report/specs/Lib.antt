@@ -1,3 +1,2 @@
-pub mod Padded
 pub mod Placed
 pub mod Written

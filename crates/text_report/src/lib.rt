@@ -4,7 +4,7 @@
 mod digits;
 mod names;
 
-ghost use Rattle.std.specs.Prelude.{◌++◌, ◌≡◌, ◌+◌, ◌≤◌, ◌<◌, length};
+ghost use Rattle.std.specs.Prelude.{◌++◌, ◌≡◌, ◌+◌, ◌≤◌, ◌<◌, leb, length};
 ghost use Rattle.replay_text.specs.Digits.{decimal, hexadecimal, ended_by, decimal_room, hexadecimal_room};
 ghost use Rattle.replay_text.specs.Bytes.{tab, line_feed};
 ghost use Rattle.replay_text.specs.Name.{name_of};
@@ -14,44 +14,41 @@ ghost use Rattle.text_report.specs.Written.{written};
 
 use digits::{decimal_field, hexadecimal_field};
 use kinds::answer::Numbers;
-use names::{name_bytes, name_length};
-use replay_text::{LINE_FEED, TAB};
+use names::name_text;
+use replay_text::{LINE_FEED, NoRoom, TAB};
 
 // No answer's line is longer: three decimal numbers of 20 digits, a name of 6 letters, 16 digits and the 5 bytes that end them.
 pub const LINE_MOST: usize = 87;
 
 const HEADER_LENGTH: usize = 28;
 
-// Where the next byte goes; or too few bytes were free, and none was written.
-#[derive(Clone, Copy)]
-pub enum Written {
-    To(usize),
-    NoRoom,
-}
-
-// Output line n, after the header: the answer in numbers, or `bad`.
-pub fn write_line(out: &mut [u8], at: usize, n: u64, numbers: Numbers) -> Written
+// Output line n, after the header: the answer in numbers, or `bad`. The place after it; where too few bytes are free, none is written.
+pub fn write_line(out: &mut [u8], at: usize, n: u64, numbers: Numbers) -> Result<usize, NoRoom>
     ensures { (result ≡ placed spec.line_most out.old at (spec.answer_line n numbers)) × (out.new ≡ written spec.line_most out.old at (spec.answer_line n numbers)) }
 {
-    if out.len() < LINE_MOST {
-        return Written::NoRoom;
+    if has_room(out.len(), at, LINE_MOST) {
+        Ok(put_line(out, at, n, numbers))
+    } else {
+        Err(NoRoom)
     }
-    if out.len() - LINE_MOST < at {
-        return Written::NoRoom;
-    }
-    Written::To(put_line(out, at, n, numbers))
 }
 
-pub fn write_header(out: &mut [u8], at: usize) -> Written
+// The header, in the same way.
+pub fn write_header(out: &mut [u8], at: usize) -> Result<usize, NoRoom>
     ensures { (result ≡ placed (length spec.header) out.old at spec.header) × (out.new ≡ written (length spec.header) out.old at spec.header) }
 {
-    if out.len() < HEADER_LENGTH {
-        return Written::NoRoom;
+    if has_room(out.len(), at, HEADER_LENGTH) {
+        Ok(put_text(out, at, b"n\tanswer\treason\tvalue\twords", LINE_FEED))
+    } else {
+        Err(NoRoom)
     }
-    if out.len() - HEADER_LENGTH < at {
-        return Written::NoRoom;
-    }
-    Written::To(put_text(out, at, b"n\tanswer\treason\tvalue\twords", LINE_FEED))
+}
+
+// Whether `length` bytes have room for `most` from place `at` on.
+pub fn has_room(length: usize, at: usize, most: usize) -> bool
+    ensures { result ≡ leb (at + most) length }
+{
+    most <= length && at <= length - most
 }
 
 fn put_line(out: &mut [u8], at: usize, n: u64, numbers: Numbers) -> usize
@@ -94,9 +91,7 @@ fn name_field(out: &mut [u8], at: usize, name: u64) -> usize
     requires { at + spec.name_room ≤ length out.old }
     ensures { Wrote (ended_by tab (name_of name)) out.old at out.new result }
 {
-    let text = name_bytes(name);
-    let length = name_length(name);
-    put_text(out, at, &text[..length], TAB)
+    put_text(out, at, name_text(name), TAB)
 }
 
 // All of `text`, and the byte `end`.
@@ -104,11 +99,8 @@ fn put_text(out: &mut [u8], at: usize, text: &[u8], end: u8) -> usize
     requires { at + length text.now < length out.old }
     ensures { Wrote (ended_by end text.now) out.old at out.new result }
 {
-    let mut i = 0;
-    while i < text.len() {
-        out[at + i] = text[i];
-        i += 1;
-    }
-    out[at + i] = end;
-    at + i + 1
+    let past = at + text.len();
+    out[at..past].copy_from_slice(text);
+    out[past] = end;
+    past + 1
 }

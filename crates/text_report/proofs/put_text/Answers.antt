@@ -3,4 +3,4 @@ use Rattle.text_report.proofs.WriteLaws as laws
 use Rattle.text_report.proofs.put_text.Goals as goal
 
 pub returns : goal.returns
-returns c = search laws.put-end
+returns c = laws.put_wrote _ _ _ _ c.requires c.copy_from_slice.ensures.after
