@@ -7,6 +7,7 @@ ghost use Rattle.tables.specs.Tables.{tables, live};
 
 use crate::{cached_run, run};
 use kinds::record::Sizes;
+use tables::lent::{Live, Tables};
 
 // N, M and R.
 fn sizes_of(pes: u64, interrupt_count: u64, requester_count: u64) -> Sizes
@@ -38,11 +39,17 @@ pub fn celltimber_run(
 ) -> usize
     ensures { RanAll (tables (record { pes = pes; interrupts = interrupt_count; requesters = requester_count }) installed requesters.now entries.now peers.now windows.now segments.now) memory.now requests.now (live state.old interrupts.old) answers.old result (live state.new interrupts.new) answers.new }
 {
-    let sizes = sizes_of(pes, interrupt_count, requester_count);
-    run::run(
-        sizes, installed, requesters, entries, memory, peers, interrupts, windows, segments, state,
-        requests, answers,
-    )
+    let tables = Tables {
+        sizes: sizes_of(pes, interrupt_count, requester_count),
+        installed,
+        requesters,
+        entries,
+        peers,
+        windows,
+        segments,
+    };
+    let mut live = Live { state, interrupts };
+    run::run(&tables, memory, &mut live, requests, answers)
 }
 
 // The same with a translation cache: memory and cache are lent to be written, and lists have edits and invalidates too. A sequence starts with the invalidate for
@@ -66,9 +73,15 @@ pub fn celltimber_cached_run(
 ) -> usize
     ensures { RanCached (tables (record { pes = pes; interrupts = interrupt_count; requesters = requester_count }) installed requesters.now entries.now peers.now windows.now segments.now) requests.now (lent memory.old state.old interrupts.old cache.old) answers.old result (lent memory.new state.new interrupts.new cache.new) answers.new }
 {
-    let sizes = sizes_of(pes, interrupt_count, requester_count);
-    cached_run::cached_run(
-        sizes, installed, requesters, entries, memory, peers, interrupts, windows, segments, state,
-        cache, requests, answers,
-    )
+    let tables = Tables {
+        sizes: sizes_of(pes, interrupt_count, requester_count),
+        installed,
+        requesters,
+        entries,
+        peers,
+        windows,
+        segments,
+    };
+    let mut live = Live { state, interrupts };
+    cached_run::cached_run(&tables, memory, &mut live, cache, requests, answers)
 }

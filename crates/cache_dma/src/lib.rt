@@ -1,14 +1,14 @@
-// A DMA whose page table is asked for, with a translation cache or without one: a hit is answered from its slot, without memory; else the page is walked, and its
-// slot is filled where the DMA passes. Defined in crates/cache/specs/Cache.antt.
+// A DMA whose page table is asked for, with a translation cache: a hit is answered from its slot, without memory; else the page is walked, and its slot is filled
+// where the DMA passes. Defined in crates/cache/specs/Cache.antt.
 #![tactic(auto)]
 
 ghost use Rattle.std.specs.Prelude.{◌≡◌};
 ghost use Rattle.kinds.specs.declared.outcome.Check.TheVariants.{Walk};
 ghost use Rattle.profile.specs.Step.{reached, finish};
 ghost use Rattle.profile.specs.Walk.{landed};
-ghost use Rattle.cache.specs.Cache.{is_pass, content};
+ghost use Rattle.cache.specs.Cache.{is_pass, content, filled};
 ghost use Rattle.cache_dma.specs.Quick.{quick_for};
-ghost use Rattle.cache_dma.specs.Went.{Went, either_filled};
+ghost use Rattle.cache_dma.specs.Went.{Went};
 
 use cache_slots;
 use dma;
@@ -16,7 +16,7 @@ use dma_entry::addresses;
 use dma_pages::{page_tables, pages};
 use dma_walk::{translate, walk};
 use kinds::answer::Answer;
-use kinds::lookup::Found;
+use kinds::lookup::{Frame, WalkError};
 use kinds::number::{ByteAddress, NO_WORD, PageSize, PeNumber};
 use kinds::outcome::Outcome;
 use kinds::record::TranslationEntry;
@@ -30,31 +30,24 @@ fn found_by(
     dma: DmaRequest,
     size: PageSize,
     offset: ByteAddress,
-    found: Found,
+    found: Result<Frame, WalkError>,
     words: u64,
 ) -> Outcome
     ensures { result ≡ reached installed pe dma (landed size dma.direction offset found) words }
 {
-    let direction = dma.direction;
-    let result = translate::land(size, direction, offset, found);
-    dma::reached(installed, pe, dma, result, words)
+    let translated = translate::land(size, dma.direction, offset, found);
+    dma::reached(installed, pe, dma, translated, words)
 }
 
-// What the cache says of a DMA whose page table is asked for: the outcome of a hit whose word permits the DMA, or that the page is walked.
-#[derive(Clone, Copy)]
-pub enum Quick {
-    Hit { outcome: Outcome },
-    Miss,
-}
-
-// A hit whose word permits the DMA is answered here. No memory is lent. The installed size comes first.
+// The outcome of a hit whose word permits the DMA; without one the page is walked. No memory is lent. The installed size comes first.
+#[tactic(auto, unfolding(crate::specs::Quick::quick_for, cache::specs::Cache::is_hit, cache::specs::Cache::found_by))]
 pub fn look(
     installed: u64,
     cache: &[u64],
     pe: PeNumber,
     entry: TranslationEntry,
     dma: DmaRequest,
-) -> Quick
+) -> Option<Outcome>
     ensures { result ≡ quick_for installed cache.now pe entry dma }
 {
     let size = page_tables::size_of(entry);
@@ -62,65 +55,40 @@ pub fn look(
     let page = pages::page_number(size, offset);
     let half = addresses::half_of(dma.address) as u64;
     let slot = cache_slots::slot_of(pe, half, page);
-    if cache_slots::is_held(cache, slot, pe, half, page) {
-        let content = cache_slots::word_of(cache, slot);
-        let direction = dma.direction;
-        if translate::allows(direction, content) {
-            let found = Found::Frame {
-                word: NO_WORD,
-                content,
-            };
-            let outcome = found_by(installed, pe, dma, size, offset, found, entry.levels);
-            return Quick::Hit { outcome };
-        }
-        return Quick::Miss;
+    if !cache_slots::is_held(cache, slot, pe, half, page) {
+        return None;
     }
-    Quick::Miss
+    let content = cache_slots::word_of(cache, slot);
+    if !translate::allows(dma.direction, content) {
+        return None;
+    }
+    let found = Ok(Frame {
+        word: NO_WORD,
+        content,
+    });
+    let outcome = found_by(installed, pe, dma, size, offset, found, entry.levels);
+    Some(outcome)
 }
 
 fn is_pass(answer: Answer) -> bool
     ensures { result ≡ is_pass answer }
 {
-    match answer {
-        Answer::Pass {
-            address: _,
-            pe: _,
-            words: _,
-        } => true,
-        Answer::Msi {
-            number: _,
-            server: _,
-            priority: _,
-        } => false,
-        Answer::Held { number: _ } => false,
-        Answer::Ones {
-            reason: _,
-            value: _,
-        } => false,
-        Answer::Drop { reason: _ } => false,
-        Answer::Refuse {
-            reason: _,
-            words: _,
-            word: _,
-        } => false,
-        Answer::Done => false,
-    }
+    matches!(answer, Answer::Pass { .. })
 }
 
 // The word that a walk found; 0 where it found none.
-fn content_of(found: Found) -> u64
+fn content_of(found: Result<Frame, WalkError>) -> u64
     ensures { result ≡ content found }
 {
     match found {
-        Found::Frame { word: _, content } => content,
-        Found::Forbidden { word: _ } => 0,
-        Found::Outside { word: _ } => 0,
+        Ok(frame) => frame.content,
+        Err(_) => 0,
     }
 }
 
-// The walk, the only reader of memory; with a cache (`cached`) its slot is filled where the DMA passes.
+// The walk, the only reader of memory; the slot of its page is filled where the DMA passes.
+#[tactic(auto, using(crate::proofs::CacheDmaLaws::finish_is), unfolding(cache::specs::Cache::filled))]
 pub fn walk_and_fill(
-    cached: bool,
     installed: u64,
     memory: &[u64],
     cache: &mut [u64],
@@ -128,7 +96,7 @@ pub fn walk_and_fill(
     entry: TranslationEntry,
     dma: DmaRequest,
 ) -> Outcome
-    ensures { Went result cache.new (finish installed memory.now (Walk pe entry dma)) (either_filled cached installed memory.now cache.old (Walk pe entry dma)) }
+    ensures { Went result cache.new (finish installed memory.now (Walk pe entry dma)) (filled installed memory.now cache.old (Walk pe entry dma)) }
 {
     let size = page_tables::size_of(entry);
     let offset = addresses::offset_of(dma.address);
@@ -136,13 +104,10 @@ pub fn walk_and_fill(
     let walked = walk::walk_page(memory, entry, page);
     let found = walked.found;
     let outcome = found_by(installed, pe, dma, size, offset, found, walked.words);
-    if cached {
-        let answer = outcome.answer;
-        if is_pass(answer) {
-            let half = addresses::half_of(dma.address) as u64;
-            let slot = cache_slots::slot_of(pe, half, page);
-            cache_slots::fill(cache, slot, pe, half, page, content_of(found));
-        }
+    if is_pass(outcome.answer) {
+        let half = addresses::half_of(dma.address) as u64;
+        let slot = cache_slots::slot_of(pe, half, page);
+        cache_slots::fill(cache, slot, pe, half, page, content_of(found));
     }
     outcome
 }

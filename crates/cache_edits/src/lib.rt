@@ -5,9 +5,12 @@
 ghost use Rattle.std.specs.Prelude.{◌≡◌, true};
 ghost use Rattle.kinds.specs.Answer.{refuse};
 ghost use Rattle.edits.specs.Edits.{nameable};
-ghost use Rattle.cache_edits.specs.Promise.{Edited, Invalidated, scope_drops};
+ghost use Rattle.cache.specs.Cache.{names};
+ghost use Rattle.cache.specs.Slots.{sweep};
+ghost use Rattle.cache_edits.specs.Promise.{Edited, Invalidated};
+ghost use Rattle.cache_sweeps.specs.Drops.{of_entries};
 
-use cache_sweeps::{Drops, page_drops, sweep, sweep_named};
+use cache_sweeps::{drop_all, drop_page, drop_pe, drop_through};
 use kinds::answer::{Answer, Reason};
 use kinds::number::{NO_WORD, PeNumber};
 use kinds::request::Scope;
@@ -24,24 +27,23 @@ pub fn edit(
 ) -> Answer
     ensures { Edited pes entries.now memory.old cache.old word value result memory.new cache.new }
 {
-    if word < memory.len() as u64 {
-        sweep(pes, entries, memory, cache, Drops::Through { word });
-        put(memory, word as usize, value);
-        return Answer::Done;
+    if word >= memory.len() as u64 {
+        return refuse(Reason::BadRequest);
     }
-    refuse(Reason::BadRequest)
+    drop_through(pes, entries, memory, cache, word);
+    put(memory, word as usize, value);
+    Answer::Done
 }
 
 // Each slot that the scope names is emptied, where it names no PE or one below N.
 pub fn invalidate(pes: u16, entries: &[u64], cache: &mut [u64], scope: Scope) -> Answer
     ensures { Invalidated pes entries.now cache.old scope result cache.new }
 {
-    if is_nameable(pes, scope) {
-        let drops = drops_of(pes, entries, scope);
-        sweep_named(cache, drops);
-        return Answer::Done;
+    if !is_nameable(pes, scope) {
+        return refuse(Reason::BadFirmware);
     }
-    refuse(Reason::BadFirmware)
+    drop_named(pes, entries, cache, scope);
+    Answer::Done
 }
 
 // A refusal with no table word read.
@@ -60,19 +62,19 @@ fn is_nameable(pes: u16, scope: Scope) -> bool
 {
     match scope {
         Scope::All => true,
-        Scope::Pe { pe } => pe < pes as u64,
-        Scope::Address { pe, address: _ } => pe < pes as u64,
+        Scope::Pe { pe } | Scope::Address { pe, .. } => pe < u64::from(pes),
     }
 }
 
-// What the sweep of a scope empties.
-fn drops_of(pes: u16, entries: &[u64], scope: Scope) -> Drops
+// Each slot that the scope names is emptied.
+#[tactic(auto, using(cache_sweeps::proofs::DropsLaws::all_is, cache_sweeps::proofs::DropsLaws::pe_is))]
+fn drop_named(pes: u16, entries: &[u64], cache: &mut [u64], scope: Scope)
     requires { nameable pes scope ≡ true }
-    ensures { result ≡ scope_drops entries.now scope }
+    ensures { cache.new ≡ sweep (names (of_entries pes entries.now) scope) cache.old }
 {
     match scope {
-        Scope::All => Drops::All,
-        Scope::Pe { pe } => Drops::Pe { pe },
-        Scope::Address { pe, address } => page_drops(entries, PeNumber(pe as u16), address),
+        Scope::All => drop_all(cache),
+        Scope::Pe { pe } => drop_pe(cache, pe),
+        Scope::Address { pe, address } => drop_page(entries, cache, PeNumber(pe as u16), address),
     }
 }

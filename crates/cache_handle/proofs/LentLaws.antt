@@ -6,12 +6,14 @@
 --     either-answers, either-leaves  what the checks and their finish come to is what the bridge with a cache, or the one without, answers and leaves
 -- Assumes nothing.
 use Rattle.kinds.specs.Lookup.{Owner}
-use Rattle.std.specs.Prelude.{◌≡◌, Bool, true, false, List, ℕ, length}
+use Rattle.std.specs.Prelude.{◌≡◌, Bool, true, false, List, ℕ, length, Option, Some, None}
 use Rattle.std.proofs.Math.Path.{refl}
 use Rattle.std.proofs.Common.{sym, ap, ◌∙◌}
 use Rattle.kinds.specs.declared.outcome.Check.{Check}
+use Rattle.kinds.specs.declared.outcome.Outcome.{Outcome}
 use Rattle.kinds.specs.declared.outcome.Check.TheVariants.{Kept, Ready, Walk, Fences}
 use Rattle.kinds.proofs.Tests.{by_cases, clash}
+use Rattle.kinds.specs.declared.answer.Answer.{Answer}
 use Rattle.kinds.specs.declared.number.PeNumber.{PeNumber}
 use Rattle.kinds.specs.declared.record.TranslationEntry.{TranslationEntry}
 use Rattle.kinds.specs.declared.request.DmaRequest.{DmaRequest}
@@ -26,23 +28,21 @@ use Rattle.cache.specs.Cache.{is_hit, looked, filled, Cached, cache_by}
 use Rattle.decide.proofs.FinishedLaws.{finished-is}
 use Rattle.cache_dma.specs.Quick.{quick_for, in_place}
 use Rattle.cache_dma.proofs.QuickLaws.{looked_quick}
-use Rattle.cache_dma.specs.declared.Quick.{Quick}
-use Rattle.cache_dma.specs.declared.Quick.TheVariants.{Hit, Miss}
-use Rattle.cache_dma.specs.Went.{either_filled}
 use Rattle.cache_words.specs.Either.{either_answer, either_after}
-use Rattle.cache_handle.specs.Lent.{either_sized, either_looked, quick_at, finished_by, filled_by}
+use Rattle.handle.specs.Parts.{pe_of, is_kept}
+use Rattle.cache_handle.specs.Lent.{either_sized, either_looked, either_filled, quick_at, finished_by, filled_by}
 
 -- a walk, by what the cache says of it
 module _ (b : Bool) (i : ℕ) (m c : List ℕ) (p : PeNumber) (e : TranslationEntry) (q : DmaRequest) where
-  hit_finish : (u : Quick) → finished_by i m ((Walk p e q)) u ≡ finish i m (in_place u p (Walk p e q))
-  hit_finish (Hit o) = unfold finish in refl
-  hit_finish Miss = refl
+  hit_finish : (u : Option Outcome) → finished_by i m (Walk p e q) u ≡ finish i m (in_place u p (Walk p e q))
+  hit_finish (Some o) = unfold finish in refl
+  hit_finish None = refl
 
-  hit_fill : (u : Quick) → filled_by true i m c ((Walk p e q)) u ≡ filled i m c (in_place u p (Walk p e q))
-  hit_fill (Hit o) = unfold filled in refl
-  hit_fill Miss = refl
+  hit_fill : (u : Option Outcome) → filled_by true i m c (Walk p e q) u ≡ filled i m c (in_place u p (Walk p e q))
+  hit_fill (Some o) = unfold filled in refl
+  hit_fill None = refl
 
-pub finished_by_lem : (b : Bool) (i : ℕ) (m c : List ℕ) (x : Check) → finished_by i m (x) (quick_at b i c (x)) ≡ finish i m (either_looked b i c x)
+pub finished_by_lem : (b : Bool) (i : ℕ) (m c : List ℕ) (x : Check) → finished_by i m x (quick_at b i c x) ≡ finish i m (either_looked b i c x)
 unfolding looked
 finished_by_lem true i m c (Kept a) = unfold finish in refl
 finished_by_lem true i m c (Ready p o) = unfold finish in refl
@@ -54,34 +54,28 @@ either-keeps : (b : Bool) (i : ℕ) (m c : List ℕ) (x : Check) → filled i m 
 either-keeps true i m c x e = e
 either-keeps false i m c x e = refl
 
-uncached_fill : (i : ℕ) (m c : List ℕ) (x : Check) → filled_by false i m c (x) Miss ≡ c
-uncached_fill i m c (Kept a) = refl
-uncached_fill i m c (Ready p o) = refl
-uncached_fill i m c (Walk p e q) = refl
-uncached_fill i m c (Fences b) = refl
-
-pub filled_by_lem : (b : Bool) (i : ℕ) (m c : List ℕ) (x : Check) → filled_by b i m c (x) (quick_at b i c (x)) ≡ either_filled b i m c (either_looked b i c x)
+pub filled_by_lem : (b : Bool) (i : ℕ) (m c : List ℕ) (x : Check) → filled_by b i m c x (quick_at b i c x) ≡ either_filled b i m c (either_looked b i c x)
 unfolding looked
-filled_by_lem true i m c (Kept a) = unfold filled in refl
-filled_by_lem true i m c (Ready p o) = unfold filled in refl
+filled_by_lem true i m c (Kept a) = refl
+filled_by_lem true i m c (Ready p o) = refl
 filled_by_lem true i m c (Walk p e q) = hit_fill true i m c p e q (quick_for i c p e q) ∙ ap (filled i m c) (looked_quick i c p e q)
-filled_by_lem true i m c (Fences b) = unfold filled in refl
-filled_by_lem false i m c x = uncached_fill i m c x
+filled_by_lem true i m c (Fences b) = refl
+filled_by_lem false i m c x = refl
 
 -- the PE of a check, and whether it is answered, are the same after the cache was looked at
-in_place_pe : (u : Quick) (p : PeNumber) (e : TranslationEntry) (q : DmaRequest) → ((in_place u p (Walk p e q))).pe ≡ p
-in_place_pe (Hit o) p e q = refl
-in_place_pe Miss p e q = refl
+in_place_pe : (u : Option Outcome) (p : PeNumber) (e : TranslationEntry) (q : DmaRequest) → pe_of (in_place u p (Walk p e q)) ≡ p
+in_place_pe (Some o) p e q = refl
+in_place_pe None p e q = refl
 
-pub looked-pe : (b : Bool) (i : ℕ) (c : List ℕ) (x : Check) → (x).pe ≡ ((either_looked b i c x)).pe
+pub looked-pe : (b : Bool) (i : ℕ) (c : List ℕ) (x : Check) → pe_of x ≡ pe_of (either_looked b i c x)
 unfolding looked
 looked-pe true i c (Kept a) = refl
 looked-pe true i c (Ready p o) = refl
-looked-pe true i c (Walk p e q) = sym (in_place_pe (quick_for i c p e q) p e q) ∙ ap (λ (y : Check). (y).pe) (looked_quick i c p e q)
+looked-pe true i c (Walk p e q) = sym (in_place_pe (quick_for i c p e q) p e q) ∙ ap pe_of (looked_quick i c p e q)
 looked-pe true i c (Fences b) = refl
 looked-pe false i c x = refl
 
-pub looked-kept : (b : Bool) (i : ℕ) (c : List ℕ) (x : Check) → (x).kept ≡ true → either_looked b i c x ≡ x
+pub looked-kept : (b : Bool) (i : ℕ) (c : List ℕ) (x : Check) → is_kept x ≡ true → either_looked b i c x ≡ x
 unfolding looked
 looked-kept true i c (Kept a) h = refl
 looked-kept true i c (Ready p o) h = clash h refl
@@ -100,15 +94,29 @@ pub looked-placed : (b : Bool) (i : ℕ) (c : List ℕ) (o : Owner) (x : Check) 
 looked-placed true i c o x h = with_cache i c o x h
 looked-placed false i c o x h = h
 
-kept_full : (i : ℕ) (m c : List ℕ) (x : Check) → (x).kept ≡ true → filled i m c x ≡ c
+kept_full : (i : ℕ) (m c : List ℕ) (x : Check) → is_kept x ≡ true → filled i m c x ≡ c
 unfolding filled
 kept_full i m c (Kept a) h = refl
 kept_full i m c (Ready p o) h = clash h refl
 kept_full i m c (Walk p e q) h = clash h refl
 kept_full i m c (Fences b) h = clash h refl
 
-pub kept_fill : (b : Bool) (i : ℕ) (m c : List ℕ) (x : Check) → (x).kept ≡ true → either_filled b i m c x ≡ c
+pub kept_fill : (b : Bool) (i : ℕ) (m c : List ℕ) (x : Check) → is_kept x ≡ true → either_filled b i m c x ≡ c
 kept_fill b i m c x h = either-keeps b i m c x (kept_full i m c x h)
+
+-- a check that is no walk fills no slot
+module _ (b : Bool) (i : ℕ) (m c : List ℕ) where
+  pub kept_fills : (a : Answer) → either_filled b i m c (Kept a) ≡ c
+  unfolding filled
+  kept_fills a = either-keeps b i m c (Kept a) refl
+
+  pub ready_fills : (p : PeNumber) (o : Outcome) → either_filled b i m c (Ready p o) ≡ c
+  unfolding filled
+  ready_fills p o = either-keeps b i m c (Ready p o) refl
+
+  pub fence_fills : (d : Bool) → either_filled b i m c (Fences d) ≡ c
+  unfolding filled
+  fence_fills d = either-keeps b i m c (Fences d) refl
 
 -- the checks of request q, with a cache or without one
 abbrev pub either_checked : (cached : Bool) → Tables → Cached → Request → Check

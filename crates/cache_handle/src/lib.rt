@@ -1,299 +1,210 @@
-// One request or operation on the bridge with a translation cache, and one request on the bridge without, on any tables and any contents of the cache. Both
-// bridges go one way, and a flag tells them apart. Memory is written by edits alone. Defined in crates/cache/specs/Cache.antt.
+// One request or operation on the bridge with a translation cache (`CACHED`), and one request on the bridge without, on any tables and any contents of the
+// cache. Memory is written by edits alone. Defined in crates/cache/specs/Cache.antt.
 #![tactic(auto)]
 
-ghost use Rattle.std.specs.Prelude.{◌≡◌, not, ◌&&◌, eqb, length};
-ghost use Rattle.kinds.specs.declared.request.Operation.TheVariants.{Plain, Edit, Invalidate};
-ghost use Rattle.kinds.specs.declared.request.Request.TheVariants.{Unnamed};
-ghost use Rattle.profile.specs.Step.{checked};
-ghost use Rattle.profile.specs.Tables.{sized};
-ghost use Rattle.tables.specs.Tables.{tables, live};
+ghost use Rattle.std.specs.Prelude.{◌≡◌, ◌&&◌, cond, eqb, not, length, Ok, Err};
+ghost use Rattle.cache.specs.Cache.{looked};
+ghost use Rattle.kinds.specs.declared.answer.Reason.TheVariants.{TableLength};
+ghost use Rattle.kinds.specs.Answer.{refuse};
+ghost use Rattle.kinds.specs.declared.outcome.Check.TheVariants.{Walk};
+ghost use Rattle.profile.specs.Step.{checked, finish};
+ghost use Rattle.profile.specs.Tables.{sized, lengths};
+ghost use Rattle.tables.specs.Lent.{seen, Same};
 ghost use Rattle.cache.specs.Slots.{cache_words};
 ghost use Rattle.cache_dma.specs.Went.{Went};
 ghost use Rattle.cache_words.specs.Operations.{maintained};
-ghost use Rattle.cache_handle.specs.Lent.{lent, either_sized, quick_at, looked_up, finished_by, filled_by};
+ghost use Rattle.cache_edits.specs.Promise.{Edited, Invalidated};
+ghost use Rattle.cache_handle.specs.Lent.{held, either_filled, either_looked, either_sized};
 ghost use Rattle.cache_handle.specs.Promise.{Served, Operated};
 
 use cache::limits;
 use cache_dma;
-use cache_dma::Quick;
 use cache_edits;
 use decide;
 use handle;
 use kinds::answer::{Answer, Reason};
-use kinds::number::NO_WORD;
+use kinds::number::{NO_WORD, PeNumber};
 use kinds::outcome::{Check, Outcome};
-use kinds::record::{Lengths, Sizes};
-use kinds::request::{Operation, Request, Scope};
+use kinds::record::TranslationEntry;
+use kinds::request::{DmaRequest, Operation, Request, Scope};
 use outcomes;
-use tables::sizes;
+use tables::lent::{Live, Tables};
 
 // The words of the cache.
 const CACHE_WORDS: usize = limits::CACHE_WORDS as usize;
 
-// Not reason 1: every number and length is on the table of 01, and the cache has its length.
-fn fits(sizes: Sizes, lengths: Lengths, cache: &[u64]) -> bool
-    ensures { result ≡ eqb (length cache.now) cache_words && sized sizes lengths }
+// A check after the cache was looked at: a walk that is a hit whose word permits the DMA is answered here.
+#[tactic(auto, using(crate::proofs::OperateLaws::a_hit, crate::proofs::OperateLaws::a_miss), unfolding(cache::specs::Cache::looked))]
+fn look(installed: u64, cache: &[u64], check: Check) -> Check
+    ensures { result ≡ looked installed cache.now check }
 {
-    if cache.len() == CACHE_WORDS {
-        return sizes::sized(sizes, lengths);
-    }
-    false
-}
-
-// What is known of a request before memory is read: its checks, and what the cache says where they ask for a walk.
-#[derive(Clone, Copy)]
-pub struct Looked {
-    pub check: Check,
-    pub quick: Quick,
-}
-
-// What the cache says, where there is one (`cached`), of the checks of a request.
-fn look_at(cached: bool, installed: u64, cache: &[u64], check: Check) -> Quick
-    ensures { result ≡ quick_at cached installed cache.now check }
-{
-    if cached {
-        if check.walks {
-            let entry = check.entry;
-            let dma = check.dma;
-            return cache_dma::look(installed, cache, check.pe, entry, dma);
+    match check {
+        Check::Walk(pe, entry, dma) => {
+            match cache_dma::look(installed, cache, pe, entry, dma) {
+                Some(outcome) => Check::Ready(pe, outcome),
+                None => check,
+            }
         }
-        return Quick::Miss;
+        Check::Kept(_) | Check::Ready(..) | Check::Fences(_) => check,
     }
-    Quick::Miss
+}
+
+// The same where there is a cache.
+fn look_at<const CACHED: bool>(installed: u64, cache: &[u64], check: Check) -> Check
+    ensures { result ≡ either_looked CACHED installed cache.now check }
+{
+    if CACHED {
+        look(installed, cache, check)
+    } else {
+        check
+    }
 }
 
 // Whether a cache has another length than its own.
-fn is_misfit(cached: bool, cache: &[u64]) -> bool
-    ensures { result ≡ cached && not (eqb (length cache.now) cache_words) }
+fn is_misfit<const CACHED: bool>(cache: &[u64]) -> bool
+    ensures { result ≡ (CACHED && not (eqb (length cache.now) cache_words)) }
 {
-    if cached {
-        return cache.len() != CACHE_WORDS;
-    }
-    false
+    CACHED && cache.len() != CACHE_WORDS
 }
 
-// All checks, and the cache where there is one (`cached`): a hit whose word permits the DMA is answered here. No memory is lent: its length is among the lengths.
-pub fn check(
-    cached: bool,
-    sizes: Sizes,
-    installed: u64,
-    lengths: Lengths,
-    requesters: &[u16],
-    entries: &[u64],
-    interrupts: &[u64],
-    windows: &[u64],
-    segments: &[u16],
-    state: &[u64],
+// All checks, and the cache where there is one. No memory is lent: `memory` is its length.
+pub fn check<const CACHED: bool>(
+    tables: &Tables<'_>,
+    memory: usize,
+    live: &Live<'_>,
     cache: &[u64],
-    asked: Request,
-) -> Looked
-    ensures { result ≡ looked_up cached installed cache.now ((checked sizes installed requesters.now entries.now windows.now segments.now (live state.now interrupts.now) (either_sized cached (length cache.now) (sized sizes lengths)) asked)) }
+    request: Request,
+) -> Check
+    ensures { result ≡ either_looked CACHED tables.now.installed cache.now (checked tables.now.sizes tables.now.installed tables.now.requesters tables.now.entries tables.now.windows tables.now.segments (seen live.now) (either_sized CACHED (length cache.now) (sized tables.now.sizes (lengths tables.now memory (seen live.now)))) request) }
 {
-    if is_misfit(cached, cache) {
-        return Looked {
-            check: outcomes::refuse(Reason::TableLength),
-            quick: Quick::Miss,
-        };
+    if is_misfit::<CACHED>(cache) {
+        return outcomes::refuse(Reason::TableLength);
     }
-    let checked = decide::check(
-        sizes, installed, lengths, requesters, entries, interrupts, windows, segments, state, asked,
-    );
-    let quick = look_at(cached, installed, cache, checked);
-    Looked {
-        check: checked,
-        quick,
-    }
+    let check = decide::check(tables, memory, live, request);
+    look_at::<CACHED>(tables.installed, cache, check)
 }
 
-// What is left after the checks and the cache: the walk, the only reader of memory, which with a cache fills a slot where its DMA passes.
-fn finish(
-    cached: bool,
-    installed: u64,
+// The walk, the only reader of memory; with a cache its slot is filled where the DMA passes.
+fn walk<const CACHED: bool>(
+    tables: &Tables<'_>,
     memory: &[u64],
     cache: &mut [u64],
-    check: Check,
-    quick: Quick,
+    pe: PeNumber,
+    entry: TranslationEntry,
+    dma: DmaRequest,
 ) -> Outcome
-    ensures { Went result cache.new (finished_by installed memory.now check quick) (filled_by cached installed memory.now cache.old check quick) }
+    ensures { Went result cache.new (finish tables.now.installed memory.now (Walk pe entry dma)) (either_filled CACHED tables.now.installed memory.now cache.old (Walk pe entry dma)) }
 {
-    let Quick::Hit { outcome } = quick else {
-        if check.walks {
-            let entry = check.entry;
-            let dma = check.dma;
-            return cache_dma::walk_and_fill(cached, installed, memory, cache, check.pe, entry, dma);
-        }
-        return check.outcome;
-    };
-    outcome
+    if CACHED {
+        cache_dma::walk_and_fill(tables.installed, memory, cache, pe, entry, dma)
+    } else {
+        handle::walk(tables, memory, pe, entry, dma)
+    }
 }
 
-// A request of the bridge with a cache (`cached`) or without one. Memory is not written.
-pub fn serve(
-    cached: bool,
-    sizes: Sizes,
-    installed: u64,
-    requesters: &[u16],
-    entries: &[u64],
+// A request of the bridge with a cache or without one, which then is lent none. Memory is not written.
+pub fn serve<const CACHED: bool>(
+    tables: &Tables<'_>,
     memory: &[u64],
-    peers: &[u64],
-    interrupts: &mut [u64],
-    windows: &[u64],
-    segments: &[u16],
-    state: &mut [u64],
+    live: &mut Live<'_>,
     cache: &mut [u64],
     request: Request,
 ) -> Answer
-    ensures { Served cached (tables sizes installed requesters.now entries.now peers.now windows.now segments.now) (lent memory.now state.old interrupts.old cache.old) request result (lent memory.now state.new interrupts.new cache.new) }
+    ensures served { Served CACHED tables.now (held memory.now (seen live.old) cache.old) request result (held memory.now (seen live.new) cache.new) }
+    ensures same { Same live.old live.new }
 {
-    let lengths = sizes::lengths_of(
-        requesters, entries, memory, peers, interrupts, windows, segments, state,
-    );
-    let looked = check(
-        cached, sizes, installed, lengths, requesters, entries, interrupts, windows, segments,
-        state, cache, request,
-    );
-    let checked = looked.check;
-    if checked.kept {
-        let known = checked.outcome;
-        return known.answer;
+    match check::<CACHED>(tables, memory.len(), live, cache, request) {
+        Check::Kept(answer) => answer,
+        Check::Ready(pe, outcome) => handle::carry_out(tables, live, pe, outcome),
+        Check::Walk(pe, entry, dma) => {
+            let outcome = walk::<CACHED>(tables, memory, cache, pe, entry, dma);
+            handle::carry_out(tables, live, pe, outcome)
+        }
+        Check::Fences(bit) => handle::change_fence(tables, live, bit),
     }
-    let quick = looked.quick;
-    let outcome = finish(cached, installed, memory, cache, checked, quick);
-    let effect = outcome.effect;
-    handle::act_at(sizes.pes, peers, interrupts, state, checked.pe, effect);
-    outcome.answer
 }
 
-// An edit of a word of memory. State and interrupts are not written.
+// N, or reason 1: every number and length is on the table of the profile, and the cache has its length.
+fn fitted_pes(
+    tables: &Tables<'_>,
+    memory: usize,
+    live: &Live<'_>,
+    cache: &[u64],
+) -> Result<u16, Reason>
+    ensures { result ≡ cond (eqb (length cache.now) cache_words && sized tables.now.sizes (lengths tables.now memory (seen live.now))) (Ok tables.now.sizes.pes) (Err TableLength) }
+{
+    if cache.len() != CACHE_WORDS {
+        return Err(Reason::TableLength);
+    }
+    tables.sized_pes(memory, live)
+}
+
+// A refusal with no table word read.
+fn refuse(reason: Reason) -> Answer
+    ensures { result ≡ refuse reason }
+{
+    Answer::Refuse {
+        reason,
+        words: 0,
+        word: NO_WORD,
+    }
+}
+
+// An edit where reason 1 does not hold; `pes` is N.
 fn edit(
-    sizes: Sizes,
-    installed: u64,
-    requesters: &[u16],
-    entries: &[u64],
+    pes: u16,
+    tables: &Tables<'_>,
     memory: &mut [u64],
-    peers: &[u64],
-    interrupts: &[u64],
-    windows: &[u64],
-    segments: &[u16],
-    state: &[u64],
     cache: &mut [u64],
     word: u64,
     value: u64,
 ) -> Answer
-    ensures { Operated (tables sizes installed requesters.now entries.now peers.now windows.now segments.now) (lent memory.old state.now interrupts.now cache.old) (Edit word value) result (lent memory.new state.now interrupts.now cache.new) }
+    ensures { Edited pes tables.now.entries memory.old cache.old word value result memory.new cache.new }
 {
-    let lengths = sizes::lengths_of(
-        requesters, entries, memory, peers, interrupts, windows, segments, state,
-    );
-    if fits(sizes, lengths, cache) {
-        return cache_edits::edit(sizes.pes as u16, entries, memory, cache, word, value);
-    }
-    Answer::Refuse {
-        reason: Reason::TableLength,
-        words: 0,
-        word: NO_WORD,
-    }
+    cache_edits::edit(pes, tables.entries, memory, cache, word, value)
 }
 
-// An invalidate. Only the cache is written.
-fn invalidate(
-    sizes: Sizes,
-    installed: u64,
-    requesters: &[u16],
-    entries: &[u64],
-    memory: &[u64],
-    peers: &[u64],
-    interrupts: &[u64],
-    windows: &[u64],
-    segments: &[u16],
-    state: &[u64],
-    cache: &mut [u64],
-    scope: Scope,
-) -> Answer
-    ensures { Operated (tables sizes installed requesters.now entries.now peers.now windows.now segments.now) (lent memory.now state.now interrupts.now cache.old) (Invalidate scope) result (lent memory.now state.now interrupts.now cache.new) }
+// An invalidate where reason 1 does not hold; `pes` is N.
+fn invalidate(pes: u16, tables: &Tables<'_>, cache: &mut [u64], scope: Scope) -> Answer
+    ensures { Invalidated pes tables.now.entries cache.old scope result cache.new }
 {
-    let lengths = sizes::lengths_of(
-        requesters, entries, memory, peers, interrupts, windows, segments, state,
-    );
-    if fits(sizes, lengths, cache) {
-        return cache_edits::invalidate(sizes.pes as u16, entries, cache, scope);
-    }
-    Answer::Refuse {
-        reason: Reason::TableLength,
-        words: 0,
-        word: NO_WORD,
-    }
+    cache_edits::invalidate(pes, tables.entries, cache, scope)
 }
 
-// Words of a kind that the bridge with a cache alone has, but that name nothing: 1, then 2.
-fn unnamed(
-    sizes: Sizes,
-    installed: u64,
-    requesters: &[u16],
-    entries: &[u64],
-    memory: &[u64],
-    peers: &[u64],
-    interrupts: &[u64],
-    windows: &[u64],
-    segments: &[u16],
-    state: &[u64],
-    cache: &[u64],
-) -> Answer
-    ensures { Operated (tables sizes installed requesters.now entries.now peers.now windows.now segments.now) (lent memory.now state.now interrupts.now cache.now) (Plain Unnamed) result (lent memory.now state.now interrupts.now cache.now) }
-{
-    let lengths = sizes::lengths_of(
-        requesters, entries, memory, peers, interrupts, windows, segments, state,
-    );
-    if fits(sizes, lengths, cache) {
-        return Answer::Refuse {
-            reason: Reason::BadRequest,
-            words: 0,
-            word: NO_WORD,
-        };
-    }
-    Answer::Refuse {
-        reason: Reason::TableLength,
-        words: 0,
-        word: NO_WORD,
-    }
-}
-
-// An operation of a kind that the bridge with a cache alone has: an edit, an invalidate, or words of these kinds that name nothing. A request is answered here as words that name nothing.
+// An operation of a kind that the bridge with a cache alone has: an edit, an invalidate, or words of these kinds that name nothing. State and interrupts are not
+// written. A request is answered here as words that name nothing.
 pub fn maintain(
-    sizes: Sizes,
-    installed: u64,
-    requesters: &[u16],
-    entries: &[u64],
+    tables: &Tables<'_>,
     memory: &mut [u64],
-    peers: &[u64],
-    interrupts: &[u64],
-    windows: &[u64],
-    segments: &[u16],
-    state: &[u64],
+    live: &Live<'_>,
     cache: &mut [u64],
     operation: Operation,
 ) -> Answer
-    ensures { Operated (tables sizes installed requesters.now entries.now peers.now windows.now segments.now) (lent memory.old state.now interrupts.now cache.old) (maintained operation) result (lent memory.new state.now interrupts.now cache.new) }
+    ensures { Operated tables.now (held memory.old (seen live.now) cache.old) (maintained operation) result (held memory.new (seen live.now) cache.new) }
+{
+    match fitted_pes(tables, memory.len(), live, cache) {
+        Err(reason) => refuse(reason),
+        Ok(pes) => match operation {
+            Operation::Plain(_) => refuse(Reason::BadRequest),
+            Operation::Edit { word, value } => edit(pes, tables, memory, cache, word, value),
+            Operation::Invalidate(scope) => invalidate(pes, tables, cache, scope),
+        },
+    }
+}
+
+// Any operation of the bridge with a cache.
+pub fn operate(
+    tables: &Tables<'_>,
+    memory: &mut [u64],
+    live: &mut Live<'_>,
+    cache: &mut [u64],
+    operation: Operation,
+) -> Answer
+    ensures operated { Operated tables.now (held memory.old (seen live.old) cache.old) operation result (held memory.new (seen live.new) cache.new) }
+    ensures same { Same live.old live.new }
 {
     match operation {
-        Operation::Plain(_) => {
-            return unnamed(
-                sizes, installed, requesters, entries, memory, peers, interrupts, windows,
-                segments, state, cache,
-            );
-        }
-        Operation::Edit { word, value } => {
-            return edit(
-                sizes, installed, requesters, entries, memory, peers, interrupts, windows,
-                segments, state, cache, word, value,
-            );
-        }
-        Operation::Invalidate(scope) => {
-            return invalidate(
-                sizes, installed, requesters, entries, memory, peers, interrupts, windows,
-                segments, state, cache, scope,
-            );
-        }
+        Operation::Plain(request) => serve::<true>(tables, memory, live, cache, request),
+        _ => maintain(tables, memory, live, cache, operation),
     }
 }

@@ -1,5 +1,5 @@
 -- The turns of a sweep.
---     length_turned       the cache keeps its length
+--     length_turned       the cache keeps its length; length_cleared: where a slot is emptied
 --     turns-is            turns for all slots are the sweep
 -- Assumes nothing.
 use Rattle.std.specs.Prelude.{◌≡◌, Bool, true, cond, ◌&&◌, List, ℕ, ◌+◌, ◌*◌, ◌/◌, ◌%◌, ◌≤◌, ltb, eqb, length}
@@ -14,7 +14,7 @@ use Rattle.cache.specs.Slots.{slot_words, Test, dropped, sweep}
 use Rattle.cache_sweeps.specs.Turn.{cleared, turned}
 
 module _ (l : List ℕ) (k : ℕ) where
-  length_cleared : (b : Bool) → length (cleared b l k) ≡ length l
+  pub length_cleared : (b : Bool) → length (cleared b l k) ≡ length l
   unfolding cleared
   length_cleared b = by_cases b (λ o. rw o (simp length-set)) (λ o. rw o)
 

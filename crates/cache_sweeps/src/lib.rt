@@ -2,11 +2,11 @@
 // names a slot in crates/cache/specs/Cache.antt.
 #![tactic(auto)]
 
-ghost use Rattle.std.specs.Prelude.{◌≡◌, [], ◌*◌, ◌<◌, ◌≤◌, length};
+ghost use Rattle.std.specs.Prelude.{◌≡◌, ◌*◌, ◌<◌, ℕ, Bool, length};
 ghost use Rattle.cache.specs.Cache.{through};
-ghost use Rattle.cache.specs.Slots.{slot_words, sweep};
-ghost use Rattle.cache_sweeps.specs.Drops.{of_entries, of_pe, of_page, tests, page_drops};
-ghost use Rattle.cache_sweeps.specs.Turn.{cleared, turned};
+ghost use Rattle.cache.specs.Slots.{slot_words, Test, dropped, sweep};
+ghost use Rattle.cache_sweeps.specs.Drops.{of_entries, of_pe, of_page, any_slot, its_slots, page_slot};
+ghost use Rattle.cache_sweeps.specs.Turn.{cleared};
 
 use cache::limits;
 use dma_entry::addresses::{entry_of, half_of, offset_of};
@@ -19,40 +19,60 @@ use tables::words::{put, word};
 // The words of a slot: PE + 1 (0: the slot is empty), half, page, the last-level word.
 const SLOT_WORDS: usize = limits::SLOT_WORDS as usize;
 
-// What a sweep empties: all slots, those of a PE, that of a page, those whose walk reads a memory word, or none.
-#[derive(Clone, Copy)]
-pub enum Drops {
-    All,
-    Pe { pe: u64 },
-    Page { pe: u64, half: u64, page: u64 },
-    Through { word: u64 },
-    Nothing,
+// All slots are emptied.
+pub fn drop_all(cache: &mut [u64])
+    ensures { cache.new ≡ sweep any_slot cache.old }
+{
+    sweep(cache, |_tag, _half, _page| true);
+}
+
+// The slots of a PE are emptied.
+pub fn drop_pe(cache: &mut [u64], pe: u64)
+    ensures { cache.new ≡ sweep (its_slots pe) cache.old }
+{
+    sweep(cache, |tag, _half, _page| of_pe(pe, tag));
+}
+
+// The page around an address is dropped, by the record that bit 59 picks, where that has pages. Its window is not asked for.
+#[tactic(auto, unfolding(crate::specs::Drops::page_slot, crate::specs::Drops::of_page))]
+pub fn drop_page(entries: &[u64], cache: &mut [u64], pe: PeNumber, address: ByteAddress)
+    ensures { cache.new ≡ sweep (page_slot entries.now pe address) cache.old }
+{
+    let entry = entry_of(entries, pe, address);
+    let is_paged = is_paged(entry);
+    let half = half_of(address) as u64;
+    let page = page_number(size_of(entry), offset_of(address));
+    sweep(cache, |tag, second, third| {
+        is_paged && of_page(u64::from(pe.0), half, page.0, tag, second, third)
+    });
+}
+
+// The slots are emptied whose page is walked through a memory word; `pes` is N.
+pub fn drop_through(pes: u16, entries: &[u64], memory: &[u64], cache: &mut [u64], word: u64)
+    ensures { cache.new ≡ sweep (through (of_entries pes entries.now) memory.now word) cache.old }
+{
+    sweep(cache, |tag, half, page| {
+        through(pes, entries, memory, word, tag, half, page)
+    });
 }
 
 // The tag is that of a PE: PE + 1, which is not worked out, for it can be 2^64.
 fn of_pe(pe: u64, tag: u64) -> bool
     ensures { result ≡ of_pe pe tag }
 {
-    if tag == 0 {
-        return false;
-    }
-    tag - 1 == pe
+    tag != 0 && tag - 1 == pe
 }
 
 // The first three words of a slot are those of a page.
+#[tactic(auto, unfolding(crate::specs::Drops::of_page))]
 fn of_page(pe: u64, half: u64, page: u64, tag: u64, second: u64, third: u64) -> bool
     ensures { result ≡ of_page pe half page tag second third }
 {
-    if of_pe(pe, tag) {
-        if second == half {
-            return third == page;
-        }
-        return false;
-    }
-    false
+    of_pe(pe, tag) && second == half && third == page
 }
 
 // The walk of the page that a full slot holds reads a memory word; `pes` is N.
+#[tactic(auto, using(crate::proofs::SweepLaws::no_record, crate::proofs::SweepLaws::no_half, crate::proofs::SweepLaws::by_record))]
 fn through(
     pes: u16,
     entries: &[u64],
@@ -62,112 +82,50 @@ fn through(
     half: u64,
     page: u64,
 ) -> bool
-    requires { 1 ≤ tag }
     ensures { result ≡ through (of_entries pes entries.now) memory.now word tag half page }
 {
-    let number = tag - 1;
-    if pes as u64 <= number {
-        return false;
-    }
-    if 2 <= half {
+    let number = tag.saturating_sub(1);
+    if u64::from(pes) <= number || 2 <= half {
         return false;
     }
     let entry = entry_of(entries, PeNumber(number as u16), ByteAddress(half << 59));
-    if is_paged(entry) {
-        return touches(memory, entry, PageNumber(page), word);
-    }
-    false
+    is_paged(entry) && touches(memory, entry, PageNumber(page), word)
 }
 
-// The first three words of a full slot name it.
-fn named(
-    pes: u16,
-    entries: &[u64],
-    memory: &[u64],
-    drops: Drops,
-    tag: u64,
-    half: u64,
-    page: u64,
-) -> bool
-    requires { 1 ≤ tag }
-    ensures { result ≡ tests pes entries.now memory.now drops tag half page }
+// All slots are looked at: a full one that `named` names, by its first three words, is emptied.
+fn sweep<F: Fn(u64, u64, u64) -> bool>(cache: &mut [u64], named: F)
+    requires { F.IsAlwaysCallable named }
+    ensures { (d : Test) → ((t h q : ℕ) (r : Bool) → F.post named t h q r → r ≡ d t h q) → cache.new ≡ sweep d cache.old }
 {
-    match drops {
-        Drops::All => true,
-        Drops::Pe { pe } => of_pe(pe, tag),
-        Drops::Page {
-            pe,
-            half: of_half,
-            page: number,
-        } => of_page(pe, of_half, number, tag, half, page),
-        Drops::Through { word } => through(pes, entries, memory, word, tag, half, page),
-        Drops::Nothing => false,
+    for slot in 0..cache.len().div_ceil(SLOT_WORDS) {
+        let is_dropped = is_dropped(cache, slot, &named);
+        empty(cache, slot, is_dropped);
     }
 }
 
-// Slot k is emptied where it is named.
-fn empty(cache: &mut [u64], k: usize, named: bool)
-    requires { k * slot_words < length cache.old }
-    ensures { cache.new ≡ cleared named cache.old k }
+// A slot is full and named.
+#[tactic(auto, unfolding(cache::specs::Slots::dropped))]
+fn is_dropped<F: Fn(u64, u64, u64) -> bool>(cache: &[u64], slot: usize, named: &F) -> bool
+    requires in_table { slot * slot_words < length cache.now }
+    requires callable { F.IsAlwaysCallable named.now }
+    ensures { (d : Test) → ((t h q : ℕ) (r : Bool) → F.post named.now t h q r → r ≡ d t h q) → result ≡ dropped d cache.now slot }
 {
-    let first = k * SLOT_WORDS;
-    if named {
+    let first = slot * SLOT_WORDS;
+    let tag = word(cache, first);
+    tag != 0 && named(tag, word(cache, first + 1), word(cache, first + 2))
+}
+
+// A slot is emptied where it is dropped.
+#[tactic(auto, unfolding(crate::specs::Turn::cleared))]
+fn empty(cache: &mut [u64], slot: usize, is_dropped: bool)
+    requires { slot * slot_words < length cache.old }
+    ensures { cache.new ≡ cleared is_dropped cache.old slot }
+{
+    let first = slot * SLOT_WORDS;
+    if is_dropped {
         put(cache, first, 0);
         put(cache, first + 1, 0);
         put(cache, first + 2, 0);
         put(cache, first + 3, 0);
     }
-}
-
-// The turn of slot k.
-fn turn(pes: u16, entries: &[u64], memory: &[u64], cache: &mut [u64], k: usize, drops: Drops)
-    requires { k * slot_words < length cache.old }
-    ensures { cache.new ≡ turned (tests pes entries.now memory.now drops) cache.old k }
-{
-    let first = k * SLOT_WORDS;
-    let tag = word(cache, first);
-    if tag < 1 {
-        return;
-    }
-    let half = word(cache, first + 1);
-    let page = word(cache, first + 2);
-    let is_named = named(pes, entries, memory, drops, tag, half, page);
-    empty(cache, k, is_named);
-}
-
-// All slots are looked at. `pes` is N.
-pub fn sweep(pes: u16, entries: &[u64], memory: &[u64], cache: &mut [u64], drops: Drops)
-    ensures { cache.new ≡ sweep (tests pes entries.now memory.now drops) cache.old }
-{
-    let mut k: usize = 0;
-    while k * SLOT_WORDS < cache.len() {
-        turn(pes, entries, memory, cache, k, drops);
-        k += 1;
-    }
-}
-
-// The sweep of an invalidate: no memory is lent, so that no walk reads a word.
-pub fn sweep_named(cache: &mut [u64], drops: Drops)
-    ensures { cache.new ≡ sweep (tests 0 [] [] drops) cache.old }
-{
-    let none = [0u64; 0];
-    sweep(0, &none, &none, cache, drops);
-}
-
-// What an invalidate by address names: the page of the record that bit 59 picks, where that has pages. Its window is not asked for.
-pub fn page_drops(entries: &[u64], pe: PeNumber, address: ByteAddress) -> Drops
-    ensures { result ≡ page_drops entries.now pe address }
-{
-    let entry = entry_of(entries, pe, address);
-    if is_paged(entry) {
-        let half = half_of(address) as u64;
-        let offset = offset_of(address);
-        let page = page_number(size_of(entry), offset);
-        return Drops::Page {
-            pe: pe.0 as u64,
-            half,
-            page: page.0,
-        };
-    }
-    Drops::Nothing
 }

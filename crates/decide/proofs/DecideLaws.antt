@@ -1,54 +1,50 @@
--- What `check`, `finish` and `decide` are proved from. Assumes nothing.
-use mathlib.Core.Path.{◌≡◌, ◌∙◌}
-use mathlib.Core.Bool.{Bool, true, false}
-use mathlib.Core.List.{List}
-use Prim.Native.Nat.{ℕ}
-use native.Mathlib.Omega.{arith}
-use mir.Syntax.{w16}
-use mir.Val.{Fits}
+-- What `pass_checks` is proved from: what N is found to be, and what the checks come to then. Assumes nothing.
+use Rattle.std.specs.Prelude.{◌≡◌, refl, Bool, true, false, cond, ℕ, Result, Ok, Err}
+use Rattle.std.proofs.Common.{arith, sym, ◌∙◌}
 use Rattle.kinds.specs.Answer.{refuse}
-use Rattle.kinds.specs.declared.outcome.Check.TheVariants.{Kept, Walk}
 use Rattle.kinds.specs.Words.{at}
+use Rattle.kinds.specs.declared.answer.Reason.{Reason}
 use Rattle.kinds.specs.declared.answer.Reason.TheVariants.{TableLength, BadRequest}
 use Rattle.kinds.specs.declared.outcome.Check.{Check}
-use Rattle.kinds.specs.declared.outcome.Outcome.{Outcome}
-use Rattle.kinds.specs.declared.record.Lengths.{Lengths}
-use Rattle.kinds.specs.declared.record.Sizes.{Sizes}
+use Rattle.kinds.specs.declared.outcome.Check.TheVariants.{Kept}
 use Rattle.kinds.specs.declared.request.Request.{Request}
 use Rattle.profile.specs.Fence.{fence_word, fenced}
 use Rattle.profile.specs.Owner.{owner_in}
-use Rattle.profile.specs.Step.{formed, asked, checked, finish}
-use Rattle.profile.specs.Tables.{Live, sized}
-use Rattle.tables.proofs.SizedLaws.{sized-pes}
-use Rattle.decide.specs.Finished.{finished}
+use Rattle.profile.specs.Step.{formed, asked, checked, checked_on}
+use Rattle.profile.specs.Tables.{Tables, Live, lengths, sized}
 use Rattle.decide.specs.PastFence.{past_fence}
 
--- `check`
-pub pes-fits : (z : Sizes) (l : Lengths) {ok : Bool} → ok ≡ sized z l → ok ≡ true → Fits w16 z.pes
-pes-fits z l i o = omega (arith, sized-pes z l (rw i at o))
+pub some_true : (n p : ℕ) (x : Reason) (b : Bool) → cond b (Ok n) (Err x) ≡ Ok p → b ≡ true
+some_true n p x true e = refl
+some_true n p x false e = grind arith
 
-pub form_good : (y : Request) {good : Bool} → good ≡ formed y → good ≡ true → formed y ≡ true
-form_good y g h = rw g at h
+pub some_is : (n p : ℕ) (x : Reason) (b : Bool) → cond b (Ok n) (Err x) ≡ Ok p → p ≡ n
+some_is n p x true e = grind arith
+some_is n p x false e = grind arith
 
-module _ (z : Sizes) (n : Lengths) (b : ℕ) (r e w g : List ℕ) (s : Live) (y : Request) {ok : Bool} (i : ok ≡ sized z n) where
-  pub checked-asked : {good d : Bool} {k : ℕ} {x : Check} → ok ≡ true → good ≡ formed y → good ≡ true → k ≡ at s.state (fence_word z.pes) → d ≡ fenced k
-      → x ≡ (past_fence d y (asked z b r e w g s y (owner_in z r w g s.interrupts y))) → x ≡ (checked z b r e w g s (sized z n) y)
+pub err_false : (n : ℕ) (x r : Reason) (b : Bool) → cond b (Ok n) (Err x) ≡ Err r → (b ≡ false) × (r ≡ x)
+err_false n x r true e = grind arith
+err_false n x r false e = (refl, grind arith)
+
+module _ (f : Tables) (n : ℕ) (s : Live) (y : Request) {r : Result ℕ Reason} (found : r ≡ cond (sized f.sizes (lengths f n s)) (Ok f.sizes.pes) (Err TableLength)) where
+  pub not_sized : {x : Reason} → r ≡ Err x → Kept (refuse x) ≡ checked_on f n s y
   unfolding checked
-  checked-asked o f h word fence x = x ∙ rw (← i, o, ← f, h, ← word, ← fence)
+  not_sized {x} e =
+      let u = err_false f.sizes.pes TableLength x (sized f.sizes (lengths f n s)) (sym found ∙ e) in rw (u.0, u.1)
 
-  pub checked-formed : {good : Bool} {x : Check} → ok ≡ true → good ≡ formed y → good ≡ false → x ≡ (Kept (refuse BadRequest))
-      → x ≡ (checked z b r e w g s (sized z n) y)
-  unfolding checked
-  checked-formed o f h x = x ∙ rw (← i, o, ← f, h)
+  module _ {p : ℕ} (e : r ≡ Ok p) where
+    good : sized f.sizes (lengths f n s) ≡ true
+    good = some_true f.sizes.pes p TableLength (sized f.sizes (lengths f n s)) (sym found ∙ e)
 
-  pub checked-sized : {x : Check} → ok ≡ false → x ≡ (Kept (refuse TableLength)) → x ≡ (checked z b r e w g s (sized z n) y)
-  unfolding checked
-  checked-sized o x = x ∙ rw (← i, o)
+    pub pes_is : p ≡ f.sizes.pes
+    pes_is = some_is f.sizes.pes p TableLength (sized f.sizes (lengths f n s)) (sym found ∙ e)
 
--- `finish`
-module _ (b : ℕ) (m : List ℕ) (c : Check) where
-  pub finish-walk : {o : Outcome} → c.walks ≡ true → o ≡ finish b m (Walk c.pe c.entry c.dma) → o ≡ finished b m c
-  finish-walk h f = f ∙ rw h
+    pub unformed : {b : Bool} → b ≡ formed y → b ≡ false → Kept (refuse BadRequest) ≡ checked_on f n s y
+    unfolding checked
+    unformed h o = rw (good, ← h, o)
 
-  pub finish-known : c.walks ≡ false → c.outcome ≡ finished b m c
-  finish-known h = rw h
+    pub asked_on : {b d : Bool} {x : Check} → b ≡ formed y → b ≡ true → d ≡ fenced (at s.state (fence_word f.sizes.pes))
+        → x ≡ past_fence d y (asked f.sizes f.installed f.requesters f.entries f.windows f.segments s y (owner_in f.sizes f.requesters f.windows f.segments s.interrupts y))
+        → x ≡ checked_on f n s y
+    unfolding checked
+    asked_on h o fence x = x ∙ rw (good, ← h, o, ← fence)

@@ -14,7 +14,7 @@ use Rattle.profile.specs.Step.{finish, checked, checked_on, decided}
 use Rattle.profile.specs.Tables.{Tables, Live, lengths, sized}
 use Rattle.decide.specs.Finished.{finished}
 
-pub finished-is : (i : ℕ) (m : List ℕ) (x : Check) → finished i m (x) ≡ finish i m x
+pub finished-is : (i : ℕ) (m : List ℕ) (x : Check) → finished i m x ≡ finish i m x
 unfolding finish
 finished-is i m (Kept a) = refl
 finished-is i m (Ready p o) = refl

@@ -1,5 +1,5 @@
 mod AskLaws
-mod DecideLaws
+pub mod DecideLaws
 mod FencedLaws
 pub mod FinishedLaws
 mod FormLaws

@@ -10,54 +10,46 @@ use profile::limits::HOLDING;
 const BLOCK: u64 = 4096;
 
 // 1 to 4,096 bytes, all in one block of 4,096.
+#[tactic(auto, unfolding(profile::specs::Step::dma_formed))]
 fn dma_formed(address: ByteAddress, length: u64) -> bool
     ensures { result ≡ dma_formed address length }
 {
-    if length < 1 {
-        return false;
-    }
-    if BLOCK < length {
-        return false;
-    }
-    address.0 % BLOCK + length <= BLOCK
+    1 <= length && length <= BLOCK && address.0 % BLOCK + length <= BLOCK
 }
 
 // Width 1, 2, 4 or 8, and the address a multiple of it.
+#[tactic(auto, unfolding(profile::specs::Step::access_formed))]
 fn access_formed(address: ByteAddress, width: u64) -> bool
     ensures { result ≡ access_formed address width }
 {
-    if width == 1 {
-        return true;
+    match width {
+        1 => true,
+        2 => address.0 % 2 == 0,
+        4 => address.0 % 4 == 0,
+        8 => address.0 % 8 == 0,
+        _ => false,
     }
-    if width == 2 {
-        return address.0 % 2 == 0;
-    }
-    if width == 4 {
-        return address.0 % 4 == 0;
-    }
-    if width == 8 {
-        return address.0 % 8 == 0;
-    }
-    false
 }
 
 // Whether a request is well formed, as far as it says itself.
+#[tactic(auto, unfolding(profile::specs::Step::formed))]
 pub(crate) fn is_formed(request: Request) -> bool
     ensures { result ≡ formed request }
 {
     match request {
         Request::Dma(dma) => dma_formed(dma.address, dma.length),
-        Request::Load { address, width } => access_formed(address, width),
-        Request::Store { address, width } => access_formed(address, width),
-        Request::Error { requester: _ } => true,
-        Request::Clear { pe: _, part: _ } => true,
-        Request::End { interrupt: _ } => true,
+        Request::Load { address, width } | Request::Store { address, width } => {
+            access_formed(address, width)
+        }
         Request::Priority {
             interrupt: _,
             priority,
         } => priority <= HOLDING,
-        Request::Fatal { requester: _ } => true,
-        Request::FenceClear => true,
+        Request::Error { .. }
+        | Request::Clear { .. }
+        | Request::End { .. }
+        | Request::Fatal { .. }
+        | Request::FenceClear => true,
         Request::Unnamed => false,
     }
 }

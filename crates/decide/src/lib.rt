@@ -3,57 +3,54 @@
 
 pub mod forms;
 
-ghost use Rattle.std.specs.Prelude.{◌≡◌, true};
-ghost use Rattle.kinds.specs.declared.outcome.Check.TheVariants.{Fences};
-ghost use Rattle.profile.specs.Owner.{of_requester, owner_in};
-ghost use Rattle.profile.specs.Step.{formed, asked, checked, decided};
-ghost use Rattle.profile.specs.Tables.{sized};
+ghost use Rattle.std.specs.Prelude.{◌≡◌, true, length};
+ghost use Rattle.kinds.specs.Outcome.{settled};
+ghost use Rattle.kinds.specs.Words.{at};
+ghost use Rattle.kinds.specs.declared.outcome.Check.TheVariants.{Kept, Fences};
+ghost use Rattle.profile.specs.Fence.{fence_word, fenced};
+ghost use Rattle.profile.specs.Freeze.{stop_word};
+ghost use Rattle.profile.specs.Owner.{of_requester, of_hit, owner_in};
+ghost use Rattle.profile.specs.Step.{formed, accessed, asked, checked_on, decided, finish};
+ghost use Rattle.profile.specs.Windows.{route};
 ghost use Rattle.owners.specs.ByOwner.{by_owner};
-ghost use Rattle.tables.specs.Tables.{tables, live};
+ghost use Rattle.tables.specs.Lent.{seen};
 ghost use Rattle.decide.specs.ByRequester.{dma_of, message_of};
 ghost use Rattle.decide.specs.PastFence.{past_fence};
-ghost use Rattle.decide.specs.Finished.{finished};
 
 use dma;
 use fence;
 use firmware;
 use kinds::answer::{Answer, Reason};
-use kinds::lookup::Owner;
-use kinds::number::{NO_WORD, PeNumber};
+use kinds::number::{ByteAddress, NO_WORD, PeNumber};
 use kinds::outcome::{Check, Effect, ErrorRecord, Outcome};
-use kinds::record::{Lengths, Sizes};
 use kinds::request::{DmaRequest, Request};
 use mmio;
 use mmio_windows;
 use outcomes;
 use owners;
-use tables::sizes;
+use tables::lent::{Live, Tables};
 
-// A DMA, by its requester. N, M, R and the installed size come first.
+// A DMA, by its requester; `pes` is N.
+#[tactic(auto, unfolding(owners::specs::ByOwner::by_owner, crate::specs::ByRequester::dma_of))]
 fn by_requester(
     pes: u16,
-    interrupt: u64,
-    count: u64,
-    installed: u64,
-    requesters: &[u16],
-    entries: &[u64],
-    interrupts: &[u64],
-    state: &[u64],
+    tables: &Tables<'_>,
+    live: &Live<'_>,
     dma: DmaRequest,
-) -> Check
-    ensures { result ≡ by_owner (dma_of interrupt installed entries.now interrupts.now state.now dma) (of_requester pes count requesters.now dma.requester) }
+) -> Result<Check, Reason>
+    ensures { settled result ≡ by_owner (dma_of tables.now.sizes.interrupts tables.now.installed tables.now.entries (seen live.now).interrupts (seen live.now).state dma) (of_requester pes tables.now.sizes.requesters tables.now.requesters dma.requester) }
 {
-    match owners::of_requester(pes, count, requesters, dma.requester) {
-        Owner::Of(pe) => {
-            return dma::check_dma(interrupt, installed, entries, interrupts, state, pe, dma);
-        }
-        Owner::Nobody(reason) => {
-            return outcomes::refuse(reason);
-        }
-    }
+    let pe = owners::of_requester(
+        pes,
+        tables.sizes.requesters,
+        tables.requesters,
+        dma.requester,
+    )?;
+    dma::check_dma(tables, live, pe, dma)
 }
 
 // An error message of a PE, with its requester.
+#[tactic(auto, unfolding(crate::specs::ByRequester::message_of))]
 fn message(pe: PeNumber, requester: u64) -> Check
     ensures { result ≡ message_of requester pe }
 {
@@ -62,28 +59,39 @@ fn message(pe: PeNumber, requester: u64) -> Check
         value: requester,
         word: NO_WORD,
     };
-    let outcome = outcomes::done(Effect::Freeze { error, peers: true });
-    outcomes::ready(pe, outcome)
+    Check::Ready(pe, outcomes::done(Effect::Freeze { error, peers: true }))
 }
 
-// An error message, by its requester. N and R come first.
-fn error_message(pes: u16, count: u64, requesters: &[u16], requester: u64) -> Check
-    ensures { result ≡ by_owner (message_of requester) (of_requester pes count requesters.now requester) }
+// An error message, by its requester; `pes` is N.
+#[tactic(auto, unfolding(owners::specs::ByOwner::by_owner))]
+fn error_message(pes: u16, tables: &Tables<'_>, requester: u64) -> Result<Check, Reason>
+    ensures { settled result ≡ by_owner (message_of requester) (of_requester pes tables.now.sizes.requesters tables.now.requesters requester) }
 {
-    match owners::of_requester(pes, count, requesters, requester) {
-        Owner::Of(pe) => message(pe, requester),
-        Owner::Nobody(reason) => outcomes::refuse(reason),
-    }
+    let pe = owners::of_requester(pes, tables.sizes.requesters, tables.requesters, requester)?;
+    Ok(message(pe, requester))
 }
 
-// A fatal message, by its requester. N and R come first.
-fn fatal_message(pes: u16, count: u64, requesters: &[u16], requester: u64) -> Check
-    ensures { result ≡ by_owner (λ _. Fences true) (of_requester pes count requesters.now requester) }
+// A fatal message, by its requester; `pes` is N.
+#[tactic(auto, unfolding(owners::specs::ByOwner::by_owner))]
+fn fatal_message(pes: u16, tables: &Tables<'_>, requester: u64) -> Result<Check, Reason>
+    ensures { settled result ≡ by_owner (λ _. Fences true) (of_requester pes tables.now.sizes.requesters tables.now.requesters requester) }
 {
-    match owners::of_requester(pes, count, requesters, requester) {
-        Owner::Of(_) => outcomes::fences(true),
-        Owner::Nobody(reason) => outcomes::refuse(reason),
-    }
+    owners::of_requester(pes, tables.sizes.requesters, tables.requesters, requester)?;
+    Ok(Check::Fences(true))
+}
+
+// A load or store, by its window; `stopped` is its answer where the PE is MMIO stopped.
+fn access(
+    pes: u16,
+    tables: &Tables<'_>,
+    live: &Live<'_>,
+    address: ByteAddress,
+    stopped: Answer,
+) -> Result<Check, Reason>
+    ensures { settled result ≡ by_owner (λ p. Kept (accessed (route tables.now.windows tables.now.segments address) p (at (seen live.now).state (stop_word p)) stopped)) (of_hit pes (route tables.now.windows tables.now.segments address)) }
+{
+    let hit = mmio_windows::route(tables.windows, tables.segments, address);
+    mmio::access_of(pes, live.state, hit, stopped)
 }
 
 // A request that is well formed; `pes` is N. The fence is asked for in the arms of the kinds that it stops. Asked for before the `match`, it would
@@ -91,164 +99,104 @@ fn fatal_message(pes: u16, count: u64, requesters: &[u16], requester: u64) -> Ch
 fn ask(
     fenced: bool,
     pes: u16,
-    sizes: Sizes,
-    installed: u64,
-    requesters: &[u16],
-    entries: &[u64],
-    interrupts: &[u64],
-    windows: &[u64],
-    segments: &[u16],
-    state: &[u64],
+    tables: &Tables<'_>,
+    live: &Live<'_>,
     request: Request,
-) -> Check
-    requires { (formed request ≡ true) × (pes ≡ sizes.pes) }
-    ensures { result ≡ past_fence fenced request (asked sizes installed requesters.now entries.now windows.now segments.now (live state.now interrupts.now) request (owner_in sizes requesters.now windows.now segments.now interrupts.now request)) }
+) -> Result<Check, Reason>
+    requires { (formed request ≡ true) × (pes ≡ tables.now.sizes.pes) }
+    ensures { settled result ≡ past_fence fenced request (asked tables.now.sizes tables.now.installed tables.now.requesters tables.now.entries tables.now.windows tables.now.segments (seen live.now) request (owner_in tables.now.sizes tables.now.requesters tables.now.windows tables.now.segments (seen live.now).interrupts request)) }
 {
     match request {
         Request::Dma(dma) => {
             if fenced {
-                return outcomes::refuse(Reason::Fenced);
+                return Err(Reason::Fenced);
             }
-            return by_requester(
-                pes,
-                sizes.interrupts,
-                sizes.requesters,
-                installed,
-                requesters,
-                entries,
-                interrupts,
-                state,
-                dma,
-            );
+            by_requester(pes, tables, live, dma)
         }
         Request::Load { address, width } => {
             let value = mmio::ones(width);
             if fenced {
-                return outcomes::kept(Answer::Ones {
-                    reason: Reason::Fenced,
-                    value,
-                });
+                let reason = Reason::Fenced;
+                return Ok(Check::Kept(Answer::Ones { reason, value }));
             }
-            let hit = mmio_windows::route(windows, segments, address);
-            let ones = Answer::Ones {
-                reason: Reason::MmioStopped,
-                value,
-            };
-            return mmio::access_of(pes, state, hit, ones);
+            let reason = Reason::MmioStopped;
+            access(pes, tables, live, address, Answer::Ones { reason, value })
         }
         Request::Store { address, width: _ } => {
             if fenced {
-                return outcomes::kept(Answer::Drop {
-                    reason: Reason::Fenced,
-                });
+                let reason = Reason::Fenced;
+                return Ok(Check::Kept(Answer::Drop { reason }));
             }
-            let hit = mmio_windows::route(windows, segments, address);
-            let drop = Answer::Drop {
-                reason: Reason::MmioStopped,
-            };
-            return mmio::access_of(pes, state, hit, drop);
+            let reason = Reason::MmioStopped;
+            access(pes, tables, live, address, Answer::Drop { reason })
         }
         Request::Error { requester } => {
             if fenced {
-                return outcomes::refuse(Reason::Fenced);
+                return Err(Reason::Fenced);
             }
-            return error_message(pes, sizes.requesters, requesters, requester);
+            error_message(pes, tables, requester)
         }
-        Request::Clear { pe, part } => {
-            return firmware::clear(pes, pe, part);
-        }
-        Request::End { interrupt } => {
-            return firmware::end(pes, sizes.interrupts, interrupts, interrupt);
-        }
+        Request::Clear { pe, part } => firmware::clear(pes, pe, part),
+        Request::End { interrupt } => firmware::end(pes, tables, live, interrupt),
         Request::Priority {
             interrupt,
             priority,
-        } => {
-            return firmware::prioritize(pes, sizes.interrupts, interrupts, interrupt, priority);
-        }
-        Request::Fatal { requester } => {
-            return fatal_message(pes, sizes.requesters, requesters, requester);
-        }
-        Request::FenceClear => {
-            return outcomes::fences(false);
-        }
-        Request::Unnamed => {
-            return outcomes::refuse(Reason::BadRequest);
-        }
+        } => firmware::prioritize(pes, tables, live, interrupt, priority),
+        Request::Fatal { requester } => fatal_message(pes, tables, requester),
+        Request::FenceClear => Ok(Check::Fences(false)),
+        Request::Unnamed => Err(Reason::BadRequest),
     }
 }
 
-// All checks before the walk. No memory is lent: its length is among the lengths.
-pub fn check(
-    sizes: Sizes,
-    installed: u64,
-    lengths: Lengths,
-    requesters: &[u16],
-    entries: &[u64],
-    interrupts: &[u64],
-    windows: &[u64],
-    segments: &[u16],
-    state: &[u64],
-    request: Request,
-) -> Check
-    ensures { result ≡ checked sizes installed requesters.now entries.now windows.now segments.now (live state.now interrupts.now) (sized sizes lengths) request }
+fn is_fenced(tables: &Tables<'_>, live: &Live<'_>) -> bool
+    ensures { result ≡ fenced (at (seen live.now).state (fence_word tables.now.sizes.pes)) }
 {
-    if sizes::sized(sizes, lengths) {
-        if forms::is_formed(request) {
-            let word = fence::fence_word(state, sizes.pes);
-            return ask(
-                fence::is_fenced(word),
-                sizes.pes as u16,
-                sizes,
-                installed,
-                requesters,
-                entries,
-                interrupts,
-                windows,
-                segments,
-                state,
-                request,
-            );
-        }
-        return outcomes::refuse(Reason::BadRequest);
+    fence::is_fenced(fence::fence_word(live.state, tables.sizes.pes))
+}
+
+// Reason 1, then 2, then the rest; `memory` is the length of memory.
+fn pass_checks(
+    tables: &Tables<'_>,
+    memory: usize,
+    live: &Live<'_>,
+    request: Request,
+) -> Result<Check, Reason>
+    ensures { settled result ≡ checked_on tables.now memory (seen live.now) request }
+{
+    match tables.sized_pes(memory, live) {
+        Err(reason) => Err(reason),
+        Ok(_) if !forms::is_formed(request) => Err(Reason::BadRequest),
+        Ok(pes) => ask(is_fenced(tables, live), pes, tables, live, request),
     }
-    outcomes::refuse(Reason::TableLength)
+}
+
+// All checks before the walk. No memory is lent: `memory` is its length.
+pub fn check(tables: &Tables<'_>, memory: usize, live: &Live<'_>, request: Request) -> Check
+    ensures { result ≡ checked_on tables.now memory (seen live.now) request }
+{
+    outcomes::settled(pass_checks(tables, memory, live, request))
 }
 
 // What is left after the checks: the walk, the only reader of memory. The installed size comes first.
+#[tactic(auto, unfolding(profile::specs::Step::finish))]
 pub fn finish(installed: u64, memory: &[u64], check: Check) -> Outcome
-    ensures { result ≡ finished installed memory.now check }
+    ensures { result ≡ finish installed memory.now check }
 {
-    if check.walks {
-        let entry = check.entry;
-        let dma = check.dma;
-        return dma::finish_walk(installed, memory, check.pe, entry, dma);
+    match check {
+        Check::Kept(answer) => Outcome {
+            answer,
+            effect: Effect::Keep,
+        },
+        Check::Ready(_, outcome) => outcome,
+        Check::Walk(pe, entry, dma) => dma::finish_walk(installed, memory, pe, entry, dma),
+        Check::Fences(bit) => outcomes::done(Effect::Fence { bit }),
     }
-    check.outcome
 }
 
 // The answer to a request and its effect, whatever the lengths of the tables.
-pub fn decide(
-    sizes: Sizes,
-    installed: u64,
-    requesters: &[u16],
-    entries: &[u64],
-    memory: &[u64],
-    peers: &[u64],
-    interrupts: &[u64],
-    windows: &[u64],
-    segments: &[u16],
-    state: &[u64],
-    request: Request,
-) -> Outcome
-    ensures { result ≡ decided (tables sizes installed requesters.now entries.now peers.now windows.now segments.now) memory.now (live state.now interrupts.now) request }
+pub fn decide(tables: &Tables<'_>, memory: &[u64], live: &Live<'_>, request: Request) -> Outcome
+    ensures { result ≡ decided tables.now memory.now (seen live.now) request }
 {
-    let lengths = sizes::lengths_of(
-        requesters, entries, memory, peers, interrupts, windows, segments, state,
-    );
-    let checked = check(
-        sizes, installed, lengths, requesters, entries, interrupts, windows, segments, state,
-        request,
-    );
-    finish(installed, memory, checked)
+    let checked = check(tables, memory.len(), live, request);
+    finish(tables.installed, memory, checked)
 }

@@ -1,21 +1,22 @@
 // A DMA of a PE: its checks before memory is read, and its outcome by the walk of its page. Defined in crates/profile/specs/Step.antt.
 #![tactic(auto)]
 
-ghost use Rattle.std.specs.Prelude.{◌≡◌, ◌-◌};
-ghost use Rattle.kinds.specs.declared.outcome.Check.TheVariants.{Walk};
+ghost use Rattle.std.specs.Prelude.{◌≡◌};
+ghost use Rattle.kinds.specs.declared.outcome.Check.TheVariants.{Ready, Walk};
+ghost use Rattle.kinds.specs.Outcome.{settled};
 ghost use Rattle.kinds.specs.Words.{at};
 ghost use Rattle.profile.specs.Entry.{class_of};
 ghost use Rattle.profile.specs.Freeze.{stop_word};
 ghost use Rattle.profile.specs.Msi.{msi, msi_formed};
 ghost use Rattle.profile.specs.Step.{installed_to, last_test, outcome_of, reached, by_entry, served, dma_asked, finish};
-ghost use Rattle.dma_entry.specs.Ask.{is_walk, ended};
+ghost use Rattle.tables.specs.Lent.{seen};
 
-use dma_entry::ask::Way;
-use dma_entry::{addresses, ask};
+use dma_entry::addresses;
+use dma_entry::ask::{self, Way};
 use dma_walk::translate;
 use endpoints;
 use kinds::answer::Reason;
-use kinds::lookup::Translated;
+use kinds::lookup::Fault;
 use kinds::number::{ByteAddress, NO_WORD, PeNumber};
 use kinds::outcome::{Check, Outcome};
 use kinds::record::TranslationEntry;
@@ -23,56 +24,51 @@ use kinds::request::{AddressClass, DmaRequest};
 use msi;
 use msi::interrupts;
 use outcomes;
-
-// How far the last of some bytes is from the first.
-fn reach_of(length: u64) -> u64
-    ensures { result ≡ length - 1 }
-{
-    if length == 0 {
-        return 0;
-    }
-    length - 1
-}
+use tables::lent::{Live, Tables};
 
 // Whether the last of the bytes from a system address is below the installed size. No sum is made that could pass 2^64 - 1, and the address, which is
 // known last, is compared once.
+#[tactic(auto, using(crate::proofs::DmaLaws::none_installed, crate::proofs::DmaLaws::room_installed))]
 fn is_installed(installed: u64, address: ByteAddress, length: u64) -> bool
     ensures { result ≡ installed_to installed address length }
 {
-    let reach = reach_of(length);
-    if installed <= reach {
-        return false;
-    }
-    address.0 < installed - reach
+    let reach = length.saturating_sub(1);
+    reach < installed && address.0 < installed - reach
 }
 
 // The last test of a DMA, by pages or by a bypass.
-fn last_test(installed: u64, length: u64, res: Translated) -> Translated
-    ensures { result ≡ last_test installed length res }
+#[tactic(auto, unfolding(profile::specs::Step::last_test))]
+fn last_test(
+    installed: u64,
+    length: u64,
+    translated: Result<ByteAddress, Fault>,
+) -> Result<ByteAddress, Fault>
+    ensures { result ≡ last_test installed length translated }
 {
-    match res {
-        Translated::To(to) => {
-            if is_installed(installed, to, length) {
-                return Translated::To(to);
-            }
-            return Translated::Fault {
-                reason: Reason::AboveInstalled,
-                word: NO_WORD,
-            };
-        }
-        Translated::Fault { reason: _, word: _ } => {
-            return res;
-        }
+    let to = translated?;
+    if is_installed(installed, to, length) {
+        Ok(to)
+    } else {
+        Err(Fault {
+            reason: Reason::AboveInstalled,
+            word: NO_WORD,
+        })
     }
 }
 
 // The outcome by what a translation gave, with the count of words that it read.
-fn outcome_of(pe: PeNumber, address: ByteAddress, res: Translated, words: u64) -> Outcome
-    ensures { result ≡ outcome_of pe address res words }
+#[tactic(auto, unfolding(profile::specs::Step::outcome_of))]
+fn outcome_of(
+    pe: PeNumber,
+    address: ByteAddress,
+    translated: Result<ByteAddress, Fault>,
+    words: u64,
+) -> Outcome
+    ensures { result ≡ outcome_of pe address translated words }
 {
-    match res {
-        Translated::To(to) => outcomes::passed(pe, to, words),
-        Translated::Fault { reason, word } => outcomes::failed(reason, address, words, word),
+    match translated {
+        Ok(to) => outcomes::passed(pe, to, words),
+        Err(Fault { reason, word }) => outcomes::failed(reason, address, words, word),
     }
 }
 
@@ -81,47 +77,25 @@ pub fn reached(
     installed: u64,
     pe: PeNumber,
     dma: DmaRequest,
-    res: Translated,
+    translated: Result<ByteAddress, Fault>,
     words: u64,
 ) -> Outcome
-    ensures { result ≡ reached installed pe dma res words }
+    ensures { result ≡ reached installed pe dma translated words }
 {
-    let address = dma.address;
-    let tested = last_test(installed, dma.length, res);
-    outcome_of(pe, address, tested, words)
+    let tested = last_test(installed, dma.length, translated);
+    outcome_of(pe, dma.address, tested, words)
 }
 
-// Whether the page table is walked.
-fn is_walk(way: Way) -> bool
-    ensures { result ≡ is_walk way }
+// The outcome of a DMA for which no word of memory is read.
+fn unwalked(
+    installed: u64,
+    pe: PeNumber,
+    dma: DmaRequest,
+    translated: Result<ByteAddress, Fault>,
+) -> Check
+    ensures { result ≡ Ready pe (reached installed pe dma translated 0) }
 {
-    match way {
-        Way::Walk(_) => true,
-        Way::Bypass => false,
-        Way::BadEntry => false,
-        Way::OutsideWindow => false,
-    }
-}
-
-// What an offset comes to with no word of memory asked for. A walk is none of these.
-fn ended(way: Way, offset: ByteAddress) -> Translated
-    ensures { result ≡ ended way offset }
-{
-    match way {
-        Way::Bypass => Translated::To(offset),
-        Way::OutsideWindow => Translated::Fault {
-            reason: Reason::OutsideWindow,
-            word: NO_WORD,
-        },
-        Way::BadEntry => Translated::Fault {
-            reason: Reason::BadEntry,
-            word: NO_WORD,
-        },
-        Way::Walk(_) => Translated::Fault {
-            reason: Reason::BadEntry,
-            word: NO_WORD,
-        },
-    }
+    Check::Ready(pe, reached(installed, pe, dma, translated, 0))
 }
 
 // By the entry that the address picks.
@@ -129,88 +103,80 @@ fn by_entry(installed: u64, entry: TranslationEntry, pe: PeNumber, dma: DmaReque
     ensures { result ≡ by_entry installed entry pe dma }
 {
     let offset = addresses::offset_of(dma.address);
-    let way = ask::ask(entry, offset);
-    if is_walk(way) {
-        return outcomes::walk(pe, entry, dma);
+    match ask::ask(entry, offset) {
+        Ok(Way::Walk(_)) => Check::Walk(pe, entry, dma),
+        Ok(Way::Bypass) => unwalked(installed, pe, dma, Ok(offset)),
+        Err(reason) => unwalked(
+            installed,
+            pe,
+            dma,
+            Err(Fault {
+                reason,
+                word: NO_WORD,
+            }),
+        ),
     }
-    let outcome = reached(installed, pe, dma, ended(way, offset), 0);
-    outcomes::ready(pe, outcome)
 }
 
-// An MSI of a PE, with its number.
+// An MSI of a PE, with its number; `count` is M.
+#[tactic(auto, unfolding(profile::specs::Msi::msi))]
 fn deliver(count: u64, interrupts: &[u64], pe: PeNumber, dma: DmaRequest, number: u64) -> Outcome
     ensures { result ≡ msi count interrupts.now pe dma.address number (msi_formed dma.direction dma.address dma.length) }
 {
-    let address = dma.address;
-    let direction = dma.direction;
-    if msi::msi_formed(direction, address, dma.length) {
-        if number < count {
-            let record = interrupts::interrupt_at(interrupts, number);
-            return msi::deliver(pe, address, number, record);
-        }
-        return outcomes::failed(Reason::MsiRefused, address, 0, NO_WORD);
+    if msi::msi_formed(dma.direction, dma.address, dma.length) && number < count {
+        let record = interrupts::interrupt_at(interrupts, number);
+        msi::deliver(pe, dma.address, number, record)
+    } else {
+        outcomes::failed(Reason::MsiRefused, dma.address, 0, NO_WORD)
     }
-    outcomes::failed(Reason::MsiRefused, address, 0, NO_WORD)
 }
 
 // A DMA of a PE that is not stopped, by the class of its address.
-fn by_class(
-    count: u64,
-    installed: u64,
-    entries: &[u64],
-    interrupts: &[u64],
-    pe: PeNumber,
-    dma: DmaRequest,
-) -> Check
-    ensures { result ≡ served (class_of dma.address) count installed entries.now interrupts.now pe dma }
+#[tactic(auto, unfolding(profile::specs::Step::served))]
+fn by_class(tables: &Tables<'_>, live: &Live<'_>, pe: PeNumber, dma: DmaRequest) -> Check
+    ensures { result ≡ served (class_of dma.address) tables.now.sizes.interrupts tables.now.installed tables.now.entries (seen live.now).interrupts pe dma }
 {
     let address = dma.address;
+    let count = tables.sizes.interrupts;
     match addresses::class_of(address) {
         AddressClass::Dma => {
-            return by_entry(
-                installed,
-                addresses::entry_of(entries, pe, address),
-                pe,
-                dma,
-            );
+            let entry = addresses::entry_of(tables.entries, pe, address);
+            by_entry(tables.installed, entry, pe, dma)
         }
         AddressClass::Msi32 => {
             let number = msi::msi_number32(address, dma.data);
-            let outcome = deliver(count, interrupts, pe, dma, number);
-            return outcomes::ready(pe, outcome);
+            Check::Ready(pe, deliver(count, live.interrupts, pe, dma, number))
         }
         AddressClass::Msi64 => {
             let number = msi::msi_number64(address, dma.data);
-            let outcome = deliver(count, interrupts, pe, dma, number);
-            return outcomes::ready(pe, outcome);
+            Check::Ready(pe, deliver(count, live.interrupts, pe, dma, number))
         }
-        AddressClass::Unserved => {
-            let outcome = outcomes::failed(Reason::AddressClass, address, 0, NO_WORD);
-            return outcomes::ready(pe, outcome);
-        }
+        AddressClass::Unserved => Check::Ready(
+            pe,
+            outcomes::failed(Reason::AddressClass, address, 0, NO_WORD),
+        ),
     }
 }
 
-// A DMA of a PE, as far as no memory is read. M and the installed size come first.
+// A DMA of a PE, as far as no memory is read; one of a stopped PE is refused.
+#[tactic(auto, unfolding(profile::specs::Step::dma_asked))]
 pub fn check_dma(
-    count: u64,
-    installed: u64,
-    entries: &[u64],
-    interrupts: &[u64],
-    state: &[u64],
+    tables: &Tables<'_>,
+    live: &Live<'_>,
     pe: PeNumber,
     dma: DmaRequest,
-) -> Check
-    ensures { result ≡ dma_asked count installed entries.now interrupts.now (at state.now (stop_word pe)) pe dma }
+) -> Result<Check, Reason>
+    ensures { settled result ≡ dma_asked tables.now.sizes.interrupts tables.now.installed tables.now.entries (seen live.now).interrupts (at (seen live.now).state (stop_word pe)) pe dma }
 {
-    let stop = endpoints::stop_word(state, pe);
+    let stop = endpoints::stop_word(live.state, pe);
     if endpoints::dma_stopped(stop) {
-        return outcomes::refuse(Reason::DmaStopped);
+        return Err(Reason::DmaStopped);
     }
-    by_class(count, installed, entries, interrupts, pe, dma)
+    Ok(by_class(tables, live, pe, dma))
 }
 
 // A DMA of a PE by the walk of its page: the only reader of memory. The installed size comes first.
+#[tactic(auto, unfolding(profile::specs::Step::finish))]
 pub fn finish_walk(
     installed: u64,
     memory: &[u64],
@@ -220,9 +186,7 @@ pub fn finish_walk(
 ) -> Outcome
     ensures { result ≡ finish installed memory.now (Walk pe entry dma) }
 {
-    let direction = dma.direction;
     let offset = addresses::offset_of(dma.address);
-    let translation = translate::translate(memory, entry, direction, offset);
-    let result = translation.result;
-    reached(installed, pe, dma, result, translation.words)
+    let translation = translate::translate(memory, entry, dma.direction, offset);
+    reached(installed, pe, dma, translation.result, translation.words)
 }

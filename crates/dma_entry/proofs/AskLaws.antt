@@ -3,19 +3,18 @@
 --     good-span           of a good entry with pages: the span is small
 --     walk-walks, other-walks     what was asked tells whether the page table is walked (is_walk); other-ends: and what the offset comes to
 -- Assumes nothing.
-use Rattle.std.specs.Prelude.{◌≡◌, true, false, ◌^◌, ◌≤◌, ltb}
+use Rattle.std.specs.Prelude.{Ok, ◌≡◌, true, false, ◌^◌, ◌≤◌, ltb}
 use Rattle.std.proofs.Math.Path.{refl}
 use Rattle.std.proofs.Common.{sym, ap, ◌∙◌, leb-true}
 use Rattle.kinds.proofs.Tests.{by_cases, clash, all_true}
 use Rattle.kinds.specs.declared.number.ByteAddress.{ByteAddress}
 use Rattle.kinds.specs.declared.record.TranslationEntry.{TranslationEntry}
 use Rattle.profile.specs.Entry.{page_size, span, offset_bits, table_good, bypass, bypass_good, in_bypass, page_tests, pages_good, paged, walks, unwalked}
-use Rattle.dma_entry.specs.Ask.{asked, is_walk, ended}
-use Rattle.dma_entry.specs.declared.ask.Way.{Way}
+use Rattle.dma_entry.specs.Ask.{Asked, asked, is_walk, ended}
 use Rattle.dma_entry.specs.declared.ask.Way.TheVariants.{Walk}
 
 module _ (e : TranslationEntry) (o : ByteAddress) where
-  pub asked-walk : walks e o ≡ true → asked e o ≡ Walk (page_size e)
+  pub asked-walk : walks e o ≡ true → asked e o ≡ Ok (Walk (page_size e))
   unfolding walks paged
   asked-walk w =
       by_cases (table_good e)
@@ -43,7 +42,7 @@ unfolding pages_good
 good-span e good = leb-true (span e) offset_bits (all_true (page_tests e) 4 good)
 
 -- what was asked
-module _ (e : TranslationEntry) (o : ByteAddress) {c : Way} (asks : c ≡ asked e o) where
+module _ (e : TranslationEntry) (o : ByteAddress) {c : Asked} (asks : c ≡ asked e o) where
   pub walk-walks : is_walk c ≡ true → walks e o ≡ true
   walk-walks n = by_cases (walks e o) (λ t. t) (λ t. clash (rw asks at n) (asked-ends e o t).0)
 

@@ -1,3 +1,2 @@
-mod AddressLaws
 pub mod AskLaws
 mod EntryLaws

@@ -16,22 +16,23 @@ const ENTRY_WORDS: usize = limits::ENTRY_WORDS as usize;
 const RECORD_WORDS: usize = limits::RECORD_WORDS as usize;
 
 // The class of an address, by its top four bits.
+#[tactic(auto, unfolding(profile::specs::Entry::class_of, crate::specs::Class::low_class))]
 pub fn class_of(address: ByteAddress) -> AddressClass
     ensures { result ≡ class_of address }
 {
-    match (address.0 >> 60) as u8 {
+    match address.0 >> 60 {
         0 => low_class(address),
         1 => AddressClass::Msi64,
-        2..=255 => AddressClass::Unserved,
+        _ => AddressClass::Unserved,
     }
 }
 
 // Class 0: the 32-bit MSI window is cut out of it.
+#[tactic(auto, unfolding(crate::specs::Class::low_class))]
 fn low_class(address: ByteAddress) -> AddressClass
     ensures { result ≡ low_class address }
 {
-    let a = address.0;
-    match a {
+    match address.0 {
         0xFFFF_0000..=0xFFFF_FFFF => AddressClass::Msi32,
         _ => AddressClass::Dma,
     }
@@ -55,7 +56,7 @@ pub fn half_of(address: ByteAddress) -> usize
 pub fn entry_of(entries: &[u64], pe: PeNumber, address: ByteAddress) -> TranslationEntry
     ensures { result ≡ entry_in entries.now pe (half address) }
 {
-    let first = pe.0 as usize * ENTRY_WORDS + half_of(address) * RECORD_WORDS;
+    let first = usize::from(pe.0) * ENTRY_WORDS + half_of(address) * RECORD_WORDS;
     TranslationEntry {
         base: word(entries, first),
         levels: word(entries, first + 1),

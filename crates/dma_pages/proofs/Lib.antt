@@ -1,3 +1,2 @@
 pub mod PageLaws
-mod PagedLaws
 mod ShapeLaws

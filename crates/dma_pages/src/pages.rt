@@ -5,7 +5,7 @@ ghost use Rattle.kinds.specs.Number.{page_bits, page_number, byte_address};
 use kinds::number::{ByteAddress, PageNumber, PageSize};
 
 // The number of address bits inside a page.
-pub(crate) fn page_bits(size: PageSize) -> u32
+pub(crate) fn page_bits(size: PageSize) -> u64
     ensures { result ≡ page_bits size }
 {
     match size {
@@ -25,6 +25,7 @@ pub fn page_number(size: PageSize, address: ByteAddress) -> PageNumber
 }
 
 // The address in a page that has the offset of `inside` in its own page, cut to 64 bits.
+#[tactic(auto, using(crate::proofs::PageLaws::joined_at))]
 pub fn byte_address(size: PageSize, page: PageNumber, inside: ByteAddress) -> ByteAddress
     ensures { result.0 ≡ (byte_address size page inside).0 % 2 ^ 64 }
 {

@@ -14,9 +14,8 @@ use Rattle.kinds.specs.declared.number.ByteAddress.{ByteAddress}
 use Rattle.kinds.specs.declared.number.PageNumber.{PageNumber}
 use Rattle.profile.specs.Entry.{aligned, most_table_code, code_bits}
 use Rattle.profile.specs.Walk.{place, next_base, leads}
-use Rattle.dma_walk.specs.Turn.{next, stepped}
-use Rattle.dma_walk.specs.declared.walk.Next.{Next}
-use Rattle.dma_walk.specs.declared.walk.Next.TheVariants.{Table, End}
+use Rattle.dma_walk.specs.Turn.{Level, ends, next, stepped}
+use Rattle.std.specs.Prelude.{Ok}
 
 module _ {n : ℕ} (few : n ≤ most_table_code + code_bits) where
   pub table-words : 1 ≤ 1 * 2 ^ n % 2 ^ 64
@@ -50,36 +49,40 @@ module _ {n : ℕ} (few : n ≤ most_table_code + code_bits) (b : ByteAddress) (
       omega (arith, base-words, here)
 
 -- `turn`: the last word
-pub last_word : (k n j w : ℕ) {a : ByteAddress} → k ≡ 0 → a ≡ word_address j → End (frame a w) 1 ≡ next k n j w
+pub lowest : (k n j w : ℕ) → k ≡ 0 → next k n j w ≡ ends (frame (word_address j) w) 1
+unfolding next
+lowest k n j w z = rw z
+
+pub last_word : (k n j w : ℕ) {a : ByteAddress} → k ≡ 0 → a ≡ word_address j → ends (frame a w) 1 ≡ next k n j w
 unfolding next
 last_word k n j w z e = rw (z, e)
 
 -- and an upper word
-upper : (k n j w : ℕ) → (k ≡ 0 → ⊥) → next k n j w ≡ cond (leads n w) (Table (next_base w)) (End (forbidden (word_address j)) 1)
+pub upper : (k n j w : ℕ) → (k ≡ 0 → ⊥) → next k n j w ≡ cond (leads n w) (Ok (next_base w)) (ends (forbidden (word_address j)) 1)
 unfolding next
 upper zero n j w up = absurd (up refl)
 upper (suc k) n j w up = refl
 
 module _ (k n j w : ℕ) (up : k ≡ 0 → ⊥) where
-  pub no_rights : w % 4 ≡ 0 → {x : Next} → x ≡ End (forbidden (word_address j)) 1 → x ≡ next k n j w
+  pub no_rights : w % 4 ≡ 0 → {x : Level} → x ≡ ends (forbidden (word_address j)) 1 → x ≡ next k n j w
   unfolding leads
   no_rights z f = f ∙ sym (upper k n j w up ∙ rw z)
 
   module _ (rights : w % 4 ≡ 0 → ⊥) {b : ByteAddress} (e : b ≡ next_base w) {ok : Bool} (whole : ok ≡ aligned n b) where
-    pub leads-on : ok ≡ true → Table b ≡ next k n j w
+    pub leads-on : ok ≡ true → Ok b ≡ next k n j w
     unfolding leads
     leads-on t = sym (upper k n j w up ∙ rw (ne_eqb _ _ rights, ← e, ← whole, t))
 
-    pub misaligned : ok ≡ false → {x : Next} → x ≡ End (forbidden (word_address j)) 1 → x ≡ next k n j w
+    pub misaligned : ok ≡ false → {x : Level} → x ≡ ends (forbidden (word_address j)) 1 → x ≡ next k n j w
     unfolding leads
     misaligned t f = f ∙ sym (upper k n j w up ∙ rw (ne_eqb _ _ rights, ← e, ← whole, t))
 
 -- `step`
 module _ (m : List ℕ) (k n : ℕ) (b : ByteAddress) (q : PageNumber) {p : ℕ} (here : p ≡ place k n b q) where
-  pub outside : length m ≤ p → {a : ByteAddress} → a ≡ word_address p → End (outside a) 0 ≡ stepped m k n b q
+  pub past_memory : length m ≤ p → {a : ByteAddress} → a ≡ word_address p → ends (outside a) 0 ≡ stepped m k n b q
   unfolding stepped
-  outside h e = rw (e, ← here, le-ltb _ _ h)
+  past_memory h e = rw (e, ← here, le-ltb _ _ h)
 
-  pub read : p < length m → {x : Next} → x ≡ next k n p (at m p) → x ≡ stepped m k n b q
+  pub read : p < length m → {x : Level} → x ≡ next k n p (at m p) → x ≡ stepped m k n b q
   unfolding stepped
   read h f = f ∙ rw (← here, lt-ltb _ _ h)

@@ -1,9 +1,9 @@
 -- Whether a walk reads a word, level by level and without a list. Assumes nothing.
 use Rattle.kinds.specs.Lookup.{Found}
 use mathlib.Core.Path.{◌≡◌, refl, sym, ◌∙◌}
-use mathlib.Core.Bool.{Bool, true, false}
+use mathlib.Core.Bool.{true, false}
 use mathlib.Core.List.{List, [], ◌∷◌}
-use Prim.Native.Nat.{ℕ, zero, suc, ◌-◌, ◌≤◌, ◌<◌}
+use Prim.Native.Nat.{ℕ, zero, suc, ◌+◌, ◌-◌, ◌≤◌, ◌<◌}
 use native.Mathlib.Omega.{arith}
 use lib.Dec.{ltb, eqb}
 use lib.ListN.{length}
@@ -13,32 +13,23 @@ use Rattle.kinds.proofs.Tests.{by_cases}
 use Rattle.kinds.specs.Words.{at}
 use Rattle.kinds.specs.declared.number.ByteAddress.{ByteAddress}
 use Rattle.kinds.specs.declared.number.PageNumber.{PageNumber}
-use Rattle.kinds.specs.declared.record.TranslationEntry.{TranslationEntry}
-use Rattle.profile.specs.Entry.{aligned, walkable}
+use Rattle.profile.specs.Entry.{aligned}
 use Rattle.profile.specs.Walk.{place, next_base, leads, turn, walk_from, walk, walked_page}
 use Rattle.profile.specs.Walk as definition
 use Rattle.profile.proofs.WalkLaws.{walk_suc}
-use Rattle.dma_walk.specs.Turn.{next, stepped}
+use Rattle.dma_walk.proofs.LoopLaws.{read_next}
+use Rattle.dma_walk.specs.declared.walk.Walked.{Walked}
+use Rattle.dma_walk.specs.Turn.{Level, ends, next, stepped}
 use Rattle.dma_walk.proofs.TurnLaws.{step-base, step-aligned}
-use Rattle.dma_walk.specs.declared.walk.Next.{Next}
-use Rattle.dma_walk.specs.declared.walk.Next.TheVariants.{Table, End}
-
--- `touches`
-module _ (m : List ℕ) (e : TranslationEntry) (q : PageNumber) (k : ℕ) {ok : Bool} (asks : ok ≡ walkable e) where
-  pub touching : ok ≡ true → {b : Bool} → b ≡ has k (walk m e q).reads → b ≡ has k (walked_page m e q).reads
-  touching t f = f ∙ rw (← asks, t)
-
-  pub untouched : ok ≡ false → false ≡ has k (walked_page m e q).reads
-  unfolding has
-  untouched t = rw (← asks, t)
+use Rattle.std.specs.Prelude.{Ok, Err}
 
 -- the places that one level reads, by what it comes to
-turn-leads : (k n j w : ℕ) (r : definition.Walked) (b : ByteAddress) → next k n j w ≡ Table b → (turn k n j w r).reads ≡ j ∷ r.reads
+turn-leads : (k n j w : ℕ) (r : definition.Walked) (b : ByteAddress) → next k n j w ≡ Ok b → (turn k n j w r).reads ≡ j ∷ r.reads
 unfolding turn next
 turn-leads zero n j w r b e = cc
 turn-leads (suc k) n j w r b e = by_cases (leads n w) (λ o. rw o) (λ o. let y = rw o at e in cc)
 
-turn-ends : (k n j w : ℕ) (r : definition.Walked) (f : Found) (c : ℕ) → next k n j w ≡ End f c → (turn k n j w r).reads ≡ j ∷ []
+turn-ends : (k n j w : ℕ) (r : definition.Walked) (f : Found) (c : ℕ) → next k n j w ≡ ends f c → (turn k n j w r).reads ≡ j ∷ []
 unfolding turn next
 turn-ends zero n j w r f c e = refl
 turn-ends (suc k) n j w r f c e = by_cases (leads n w) (λ o. let y = rw o at e in cc) (λ o. rw o)
@@ -67,7 +58,7 @@ module _ (m : List ℕ) (k n : ℕ) (b : ByteAddress) (q : PageNumber) (i : ℕ)
       (λ o. rw o (has-none i)))
 
   -- it is another, and leads on: the level below tells
-  lower-is : eqb i (place k n b q) ≡ false → (b' : ByteAddress) → stepped m k n b q ≡ Table b'
+  lower-is : eqb i (place k n b q) ≡ false → (b' : ByteAddress) → stepped m k n b q ≡ Ok b'
       → has i (walk_from m (suc k) n b q).reads ≡ has i (walk_from m k n b' q).reads
   unfolding stepped
   lower-is e b' z =
@@ -79,7 +70,7 @@ module _ (m : List ℕ) (k n : ℕ) (b : ByteAddress) (q : PageNumber) (i : ℕ)
       (λ o. let y = rw o at z in cc))
 
   -- it is another, and does not lead on
-  ended_is : eqb i (place k n b q) ≡ false → (f : Found) (c : ℕ) → stepped m k n b q ≡ End f c → has i (walk_from m (suc k) n b q).reads ≡ false
+  ended_is : eqb i (place k n b q) ≡ false → (f : Found) (c : ℕ) → stepped m k n b q ≡ ends f c → has i (walk_from m (suc k) n b q).reads ≡ false
   unfolding stepped
   ended_is e f c z =
       let j = place k n b q in
@@ -100,19 +91,42 @@ module _ (m : List ℕ) (q : PageNumber) (n top l k : ℕ) (first base : ByteAdd
     found_here e =
         sym (same ∙ level some ∙ here_is m (l - 1) n base q k (eq-eqb k (place (l - 1) n base q) (sym e ∙ here)) ∙ rw (← here))
 
-    module _ (away : p ≡ k → ⊥) {x : Next} (e : x ≡ stepped m (l - 1) n base q) where
+    module _ (away : p ≡ k → ⊥) {x : Level} (e : x ≡ stepped m (l - 1) n base q) where
       elsewhere : eqb k (place (l - 1) n base q) ≡ false
       elsewhere = ne_eqb k (place (l - 1) n base q) (λ z. away (here ∙ sym z))
 
-      pub lower : {b : ByteAddress} → x ≡ Table b → has k (walk_from m top n first q).reads ≡ has k (walk_from m (l - 1) n b q).reads
+      pub lower : {b : ByteAddress} → x ≡ Ok b → has k (walk_from m top n first q).reads ≡ has k (walk_from m (l - 1) n b q).reads
       lower {b} z = same ∙ level some ∙ lower-is m (l - 1) n base q k elsewhere b (sym e ∙ z)
 
-      pub lower-aligned : {b : ByteAddress} → x ≡ Table b → aligned n b ≡ true
+      pub lower-aligned : {b : ByteAddress} → x ≡ Ok b → aligned n b ≡ true
       lower-aligned {b} z = step-aligned m (l - 1) n base q b (sym e ∙ z)
 
-      pub ended : {f : Found} {c : ℕ} → x ≡ End f c → false ≡ has k (walk_from m top n first q).reads
+      pub ended : {f : Found} {c : ℕ} → x ≡ ends f c → false ≡ has k (walk_from m top n first q).reads
       ended {f} {c} z = sym (same ∙ level some ∙ ended_is m (l - 1) n base q k elsewhere f c (sym e ∙ z))
 
   pub done : l ≤ 0 → false ≡ has k (walk_from m top n first q).reads
   unfolding walk_from has
   done none = let z : l ≡ 0 = omega arith in sym (same ∙ rw z)
+
+-- the same, the levels that are left being those after the words read
+module _ (m : List ℕ) (q : PageNumber) (n top read k : ℕ) (first base : ByteAddress)
+    (same : has k (walk_from m top n first q).reads ≡ has k (walk_from m (top - read) n base q).reads) where
+  module _ (some : read < top) {p : ℕ} (here : p ≡ place (top - read - 1) n base q) where
+    left : 0 < top - read
+    left = omega arith
+
+    pub read-here : p ≡ k → ltb p (length m) ≡ has k (walk_from m top n first q).reads
+    read-here e = found_here m q n top (top - read) k first base same left here e
+
+    module _ (away : p ≡ k → ⊥) {x : Level} (e : x ≡ stepped m (top - read - 1) n base q) where
+      pub read_lower : {b : ByteAddress} → x ≡ Ok b → has k (walk_from m top n first q).reads ≡ has k (walk_from m (top - (read + 1)) n b q).reads
+      read_lower z = rw (← read_next top read) (lower m q n top (top - read) k first base same left here away e z)
+
+      pub read-aligned : {b : ByteAddress} → x ≡ Ok b → aligned n b ≡ true
+      read-aligned z = lower-aligned m q n top (top - read) k first base same left here away e z
+
+      pub read_ended : {w : Walked} → x ≡ Err w → false ≡ has k (walk_from m top n first q).reads
+      read_ended z = ended m q n top (top - read) k first base same left here away e z
+
+  pub read_done : top ≤ read → read ≤ top → false ≡ has k (walk_from m top n first q).reads
+  read_done h _ = done m q n top (top - read) k first base same (omega arith)

@@ -4,20 +4,18 @@ ghost use Rattle.kinds.specs.Has.{has};
 ghost use Rattle.profile.specs.Walk.{walk, walked_page};
 ghost use Rattle.dma_walk.specs.Turn.{Shaped};
 
-use crate::walk::{Next, place, step};
+use crate::walk::{place, step};
 use dma_pages::page_tables::is_walkable;
 use kinds::number::{ByteAddress, PageNumber};
 use kinds::record::TranslationEntry;
 use profile::limits::CODE_BITS;
 
 // By any entry; by one whose table cannot be walked nothing is read.
+#[tactic(auto, unfolding(kinds::specs::Has::has))]
 pub fn touches(memory: &[u64], entry: TranslationEntry, page: PageNumber, word: u64) -> bool
     ensures { result ≡ has word (walked_page memory.now entry page).reads }
 {
-    if is_walkable(entry) {
-        return reads_word(memory, entry, page, word);
-    }
-    false
+    is_walkable(entry) && reads_word(memory, entry, page, word)
 }
 
 // By an entry whose table can be walked.
@@ -27,20 +25,15 @@ fn reads_word(memory: &[u64], entry: TranslationEntry, page: PageNumber, word: u
 {
     let bits = entry.table + CODE_BITS;
     let mut base = ByteAddress(entry.base);
-    let mut below = entry.levels;
-    while 0 < below {
-        below -= 1;
+    for read in 0..entry.levels {
+        let below = entry.levels - read - 1;
         let at = place(below, bits, base, page);
         if at as u64 == word {
             return at < memory.len();
         }
         match step(memory, below, bits, base, page) {
-            Next::Table(lower) => {
-                base = lower;
-            }
-            Next::End { found: _, words: _ } => {
-                return false;
-            }
+            Ok(lower) => base = lower,
+            Err(_) => return false,
         }
     }
     false

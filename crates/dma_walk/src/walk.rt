@@ -1,34 +1,25 @@
 // The walk of a page table.
-ghost use Rattle.kinds.specs.declared.lookup.WalkError.TheVariants.{Forbidden};
-ghost use Rattle.kinds.specs.Lookup.{forbidden};
 ghost use Rattle.std.specs.Prelude.{◌≡◌, true, ◌+◌, ◌*◌, ◌^◌, ◌<◌, ◌≤◌};
 ghost use Rattle.kinds.specs.Number.{word_bytes, word_address};
 ghost use Rattle.profile.specs.Entry.{aligned, most_table_code, code_bits};
 ghost use Rattle.profile.specs.Walk.{place, next_base, walk, walked_page};
 ghost use Rattle.dma_walk.specs.Turn.{Shaped, next, stepped, counted};
-ghost use Rattle.dma_walk.specs.declared.walk.Next.TheVariants.{End};
 
 use dma_pages::page_tables::{aligned, is_walkable};
-use kinds::lookup::Found;
+use kinds::lookup::{Frame, WalkError};
 use kinds::number::{ByteAddress, NO_WORD, PageNumber};
 use kinds::record::TranslationEntry;
 use profile::limits::{CODE_BITS, WORD_BYTES};
 
 // What a walk found, and the count of words that it read.
-#[derive(Clone, Copy)]
+#[derive(Clone, Copy, Debug, PartialEq, Eq)]
 pub struct Walked {
-    pub found: Found,
+    pub found: Result<Frame, WalkError>,
     pub words: u64,
 }
 
-// The result of one level of a walk: the base of the next table, or the end, with the words that it read.
-#[derive(Clone, Copy)]
-pub(crate) enum Next {
-    Table(ByteAddress),
-    End { found: Found, words: u64 },
-}
-
 // The number of the memory word that a page has in the table at `base`, with `below` levels below it.
+#[tactic(auto, using(crate::proofs::StepLaws::placed))]
 pub(crate) fn place(below: u64, bits: u64, base: ByteAddress, page: PageNumber) -> usize
     requires { (bits ≤ most_table_code + code_bits) × (bits * below < 64) }
     ensures { result ≡ place below bits base page }
@@ -53,63 +44,50 @@ fn word_address(place: u64) -> ByteAddress
 }
 
 // What the content of the memory word at a place gives, with `below` levels below its table.
-pub(crate) fn turn(below: u64, bits: u64, place: u64, content: u64) -> Next
+#[tactic(auto, using(crate::proofs::StepLaws::lowest, crate::proofs::StepLaws::upper), unfolding(profile::specs::Walk::leads))]
+fn turn(below: u64, bits: u64, place: u64, content: u64) -> Result<ByteAddress, Walked>
     requires { (bits ≤ most_table_code + code_bits) × (place * word_bytes < 2 ^ 64) }
     ensures { result ≡ next below bits place content }
 {
+    let word = word_address(place);
     if below == 0 {
-        return Next::End {
-            found: Found::Frame {
-                word: word_address(place),
-                content,
-            },
+        return Err(Walked {
+            found: Ok(Frame { word, content }),
             words: 1,
-        };
-    }
-    if content % 4 == 0 {
-        return forbidden(place);
+        });
     }
     let base = next_base(content);
-    if aligned(bits, base) {
-        return Next::Table(base);
+    if content % 4 == 0 || !aligned(bits, base) {
+        return Err(Walked {
+            found: Err(WalkError::Forbidden { word }),
+            words: 1,
+        });
     }
-    forbidden(place)
+    Ok(base)
 }
 
-// The end at an upper word that does not lead on.
-fn forbidden(place: u64) -> Next
-    requires { place * word_bytes < 2 ^ 64 }
-    ensures { result ≡ End (forbidden (word_address place)) 1 }
-{
-    Next::End {
-        found: Found::Forbidden {
-            word: word_address(place),
-        },
-        words: 1,
-    }
-}
-
-// One level of the walk, with `below` levels below it.
+// One level of the walk, with `below` levels below it: the base of the next table, or the end of the walk, with the words that this level read.
+#[tactic(auto, using(crate::proofs::StepLaws::word_below), unfolding(crate::specs::Turn::stepped))]
 pub(crate) fn step(
     memory: &[u64],
     below: u64,
     bits: u64,
     base: ByteAddress,
     page: PageNumber,
-) -> Next
+) -> Result<ByteAddress, Walked>
     requires { (bits ≤ most_table_code + code_bits) × (bits * below < 64) × (aligned bits base ≡ true) }
     ensures { result ≡ stepped memory.now below bits base page }
 {
     let at = place(below, bits, base, page);
-    if memory.len() <= at {
-        return Next::End {
-            found: Found::Outside {
+    let Some(content) = memory.get(at) else {
+        return Err(Walked {
+            found: Err(WalkError::Outside {
                 word: word_address(at as u64),
-            },
+            }),
             words: 0,
-        };
-    }
-    turn(below, bits, at as u64, memory[at])
+        });
+    };
+    turn(below, bits, at as u64, *content)
 }
 
 // The walk of a page by an entry whose table can be walked.
@@ -119,26 +97,20 @@ fn walk(memory: &[u64], entry: TranslationEntry, page: PageNumber) -> Walked
 {
     let bits = entry.table + CODE_BITS;
     let mut base = ByteAddress(entry.base);
-    let mut below = entry.levels;
-    let mut words: u64 = 0;
-    while 0 < below {
-        below -= 1;
-        match step(memory, below, bits, base, page) {
-            Next::Table(lower) => {
-                base = lower;
-                words += 1;
-            }
-            Next::End { found, words: here } => {
+    for read in 0..entry.levels {
+        match step(memory, entry.levels - read - 1, bits, base, page) {
+            Ok(lower) => base = lower,
+            Err(end) => {
                 return Walked {
-                    found,
-                    words: words + here,
+                    found: end.found,
+                    words: read + end.words,
                 };
             }
         }
     }
     Walked {
-        found: Found::Forbidden { word: NO_WORD },
-        words,
+        found: Err(WalkError::Forbidden { word: NO_WORD }),
+        words: entry.levels,
     }
 }
 
@@ -147,10 +119,11 @@ pub fn walk_page(memory: &[u64], entry: TranslationEntry, page: PageNumber) -> W
     ensures { result ≡ counted (walked_page memory.now entry page) }
 {
     if is_walkable(entry) {
-        return walk(memory, entry, page);
-    }
-    Walked {
-        found: Found::Forbidden { word: NO_WORD },
-        words: 0,
+        walk(memory, entry, page)
+    } else {
+        Walked {
+            found: Err(WalkError::Forbidden { word: NO_WORD }),
+            words: 0,
+        }
     }
 }

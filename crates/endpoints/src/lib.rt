@@ -25,6 +25,7 @@ pub fn stop_word(state: &[u64], pe: PeNumber) -> u64
     word(state, pe.0 as usize * STATE_WORDS)
 }
 
+#[tactic(auto, unfolding(profile::specs::Freeze::released))]
 pub fn release(state: &mut [u64], pe: PeNumber, part: Part)
     ensures { state.new ≡ released part pe state.old }
 {
@@ -60,6 +61,5 @@ pub fn peer_vector(peers: &[u64], pe: PeNumber) -> [u64; 4]
 pub fn is_listed(vector: &[u64], k: usize) -> bool
     ensures { result ≡ bit_of vector.now k }
 {
-    let bits = word(vector, k / 64);
-    (bits >> (k % 64)) % 2 == 1
+    (word(vector, k / 64) >> (k % 64)) % 2 == 1
 }

@@ -1,8 +1,7 @@
 // What firmware asks of an interrupt: its end, and a new priority.
 ghost use Rattle.std.specs.Prelude.{◌≡◌};
-ghost use Rattle.kinds.specs.declared.answer.Reason.TheVariants.{BadFirmware};
 ghost use Rattle.kinds.specs.declared.outcome.Effect.TheVariants as effect;
-ghost use Rattle.kinds.specs.Outcome.{refused, done};
+ghost use Rattle.kinds.specs.Outcome.{done};
 ghost use Rattle.profile.specs.Firmware.{on_good, ends, prioritized};
 
 use kinds::answer::{Answer, Reason};
@@ -12,12 +11,6 @@ use msi::arrive;
 use msi::interrupts::{P, Q, in_range};
 use outcomes;
 use profile::limits::HOLDING;
-
-fn firmware_refused() -> Outcome
-    ensures { result ≡ refused BadFirmware }
-{
-    outcomes::refused(Reason::BadFirmware)
-}
 
 // Firmware wrote priority and state, and nothing is presented.
 fn written(number: u64, priority: u64, bits: u64) -> Outcome
@@ -31,34 +24,35 @@ fn written(number: u64, priority: u64, bits: u64) -> Outcome
 }
 
 // The end of an interrupt whose words are in their ranges: what was held is presented again, unless the priority holds it.
+#[tactic(auto, unfolding(profile::specs::Firmware::ends))]
 fn ended(number: u64, interrupt: Interrupt) -> Outcome
     ensures { result ≡ ends number interrupt }
 {
-    let priority = interrupt.priority;
-    let bits = interrupt.bits;
+    let Interrupt {
+        server,
+        priority,
+        bits,
+        ..
+    } = interrupt;
     if bits < P {
-        return Outcome {
-            answer: Answer::Done,
-            effect: Effect::Keep,
-        };
-    }
-    if bits == P {
-        return written(number, priority, 0);
-    }
-    if interrupt.priority == HOLDING {
-        return written(number, priority, Q);
-    }
-    Outcome {
-        answer: Answer::Msi {
-            number,
-            server: interrupt.server,
-            priority,
-        },
-        effect: Effect::Interrupt {
-            number,
-            priority,
-            bits: P,
-        },
+        outcomes::done(Effect::Keep)
+    } else if bits == P {
+        written(number, priority, 0)
+    } else if priority == HOLDING {
+        written(number, priority, Q)
+    } else {
+        Outcome {
+            answer: Answer::Msi {
+                number,
+                server,
+                priority,
+            },
+            effect: Effect::Interrupt {
+                number,
+                priority,
+                bits: P,
+            },
+        }
     }
 }
 
@@ -67,35 +61,28 @@ pub(crate) fn end_interrupt(number: u64, interrupt: Interrupt) -> Outcome
     ensures { result ≡ on_good interrupt (ends number interrupt) }
 {
     if in_range(interrupt) {
-        return ended(number, interrupt);
+        ended(number, interrupt)
+    } else {
+        outcomes::refused(Reason::BadFirmware)
     }
-    firmware_refused()
 }
 
 // A new priority of an interrupt whose words are in their ranges. It is written first: an MSI that the old one held arrives under it.
+#[tactic(auto, unfolding(profile::specs::Firmware::prioritized))]
 fn prioritized(number: u64, next: u64, interrupt: Interrupt) -> Outcome
     ensures { result ≡ prioritized number next interrupt }
 {
-    let old = interrupt.priority;
     let bits = interrupt.bits;
-    if old == HOLDING {
-        if next == HOLDING {
-            return written(number, next, bits);
-        }
-        if bits % 2 == Q {
-            return arrive(
-                number,
-                Interrupt {
-                    pe: interrupt.pe,
-                    server: interrupt.server,
-                    priority: next,
-                    bits: bits / 2 * 2,
-                },
-            );
-        }
-        return written(number, next, bits);
+    if interrupt.priority == HOLDING && next != HOLDING && bits % 2 == Q {
+        let cleared = Interrupt {
+            priority: next,
+            bits: bits / 2 * 2,
+            ..interrupt
+        };
+        arrive(number, cleared)
+    } else {
+        written(number, next, bits)
     }
-    written(number, next, bits)
 }
 
 // A new priority of an interrupt whose number and PE are good.
@@ -103,7 +90,8 @@ pub(crate) fn set_priority(number: u64, priority: u64, interrupt: Interrupt) -> 
     ensures { result ≡ on_good interrupt (prioritized number priority interrupt) }
 {
     if in_range(interrupt) {
-        return prioritized(number, priority, interrupt);
+        prioritized(number, priority, interrupt)
+    } else {
+        outcomes::refused(Reason::BadFirmware)
     }
-    firmware_refused()
 }

@@ -1,12 +1,19 @@
 -- What the functions of `handle` are proved from. Assumes nothing.
-use mathlib.Core.Path.{◌≡◌, sym, ap, ◌∙◌}
+use mathlib.Core.Path.{◌≡◌, refl, sym, ap, ◌∙◌}
 use mathlib.Core.Bool.{Bool, true}
 use mathlib.Core.List.{List}
 use Prim.Native.Nat.{ℕ}
 use lib.ListN.{length}
 use Rattle.kinds.specs.Answer.{numbered}
 use Rattle.kinds.specs.declared.number.PeNumber.{PeNumber}
+use Rattle.kinds.specs.declared.answer.Answer.{Answer}
+use Rattle.kinds.specs.declared.answer.Answer.TheVariants.{Done}
+use Rattle.kinds.specs.Outcome as outcomes
+use Rattle.kinds.specs.Outcome.{done}
 use Rattle.kinds.specs.declared.outcome.Check.{Check}
+use Rattle.kinds.specs.declared.outcome.Check.TheVariants.{Kept, Ready, Walk, Fences}
+use Rattle.kinds.specs.declared.record.TranslationEntry.{TranslationEntry}
+use Rattle.kinds.specs.declared.request.DmaRequest.{DmaRequest}
 use Rattle.kinds.specs.declared.outcome.Effect.{Effect}
 use Rattle.kinds.specs.declared.outcome.Effect.TheVariants.{Keep, Freeze, Release, Interrupt, Fence}
 use Rattle.kinds.specs.declared.outcome.ErrorRecord.{ErrorRecord}
@@ -20,12 +27,11 @@ use Rattle.profile.specs.Freeze.{vector_in, taken, froze, released}
 use Rattle.profile.specs.Msi.{stored}
 use Rattle.profile.specs.Owner.{owner}
 use Rattle.profile.proofs.RequestLaws.{checked-owner}
-use Rattle.profile.specs.Step.{whole, act, checked, checked_on, decided, after}
+use Rattle.profile.specs.Step.{whole, act, checked_on, finish, after}
 use Rattle.profile.specs.Tables.{Tables, Live, lengths, sized}
 use Rattle.tables.specs.Tables.{live}
-use Rattle.decide.specs.Finished.{finished}
-use Rattle.decide.proofs.FinishedLaws.{checked-is, decided-is}
-use Rattle.handle.proofs.PlacedLaws.{placed, kept_out, kept-still, still}
+use Rattle.handle.proofs.PlacedLaws.{placed}
+use Rattle.handle.specs.Parts.{pe_of}
 use Rattle.handle.specs.Promise.{Handled}
 
 -- `taken`
@@ -54,40 +60,36 @@ module _ (n : ℕ) (v : List ℕ) (p : PeNumber) {e : Effect} (s l : List ℕ) w
   unfolding whole act
   fenced h k = rw (h, k)
 
--- `handle`
-module _ (f : Tables) (m : List ℕ) (s : Live) (q : Request) {k : Lengths} {c : Check} (measured : k ≡ lengths f (length m) s)
-    (checks : c ≡ (checked f.sizes f.installed f.requesters f.entries f.windows f.segments s (sized f.sizes k) q)) where
+-- `handle`: c is the check of request q on the state s
+module _ (f : Tables) (m : List ℕ) (s : Live) (q : Request) {c : Check} (is : c ≡ checked_on f (length m) s q) where
   abbrev x : Check
   x = checked_on f (length m) s q
 
-  is : c ≡ x
-  is = checked-is f m s q measured checks
+  at-owner : {o : Outcome} → o ≡ finish f.installed m x → act f.sizes.pes f.peers (pe_of x) o.effect s ≡ after f m s q
+  at-owner said =
+      rw said (placed f m (owner f s q) x s
+      (checked-owner f.sizes f.installed f.requesters f.entries f.windows f.segments s (sized f.sizes (lengths f (length m) s)) q))
 
-  pub handled-kept : c.kept ≡ true → Handled f m s q c.outcome.answer s
-  handled-kept h =
-      let kept-is : (x).kept ≡ true = rw is at h in
-      let said : c.outcome ≡ decided f m s q = ap (λ (u : Check). u.outcome) is ∙ sym (kept_out f.installed m x kept-is) in
-      let quiet : (decided f m s q).effect ≡ Keep = rw (kept_out f.installed m x kept-is) (kept-still x kept-is) in
-      record {
-        answers = ap (λ (u : Outcome). u.answer) said;
-        numbers = ap (λ (u : Outcome). numbered u.answer) said;
-        leaves = sym (rw quiet (still f (owner f s q) s));
-        isolation = isolation;
-      }
+  handled : {o : Outcome} {t : Live} → o ≡ finish f.installed m x → t ≡ act f.sizes.pes f.peers (pe_of x) o.effect s → Handled f m s q o.answer t
+  handled said acts = record {
+    answers = ap (λ (u : Outcome). u.answer) said;
+    numbers = ap (λ (u : Outcome). numbered u.answer) said;
+    leaves = acts ∙ at-owner said;
+    isolation = isolation;
+  }
 
-  module _ {o : Outcome} (ends : o ≡ finished f.installed m c) where
-    said : o ≡ decided f m s q
-    said = decided-is f m s q measured checks ends
+  pub handled_kept : {a : Answer} → c ≡ Kept a → Handled f m s q a s
+  unfolding finish act
+  handled_kept {a} e = let z : x ≡ Kept a = sym is ∙ e in handled {o = outcomes.kept a} (rw z refl) refl
 
-    at-owner : act f.sizes.pes f.peers c.pe o.effect s ≡ after f m s q
-    at-owner =
-        rw (said, is) (placed f m (owner f s q) x s
-        (checked-owner f.sizes f.installed f.requesters f.entries f.windows f.segments s (sized f.sizes (lengths f (length m) s)) q))
+  module _ {o : Outcome} {a : Answer} {t : Live} (answers : a ≡ o.answer) {p : PeNumber} (acts : t ≡ act f.sizes.pes f.peers p o.effect s) where
+    pub handled_ready : c ≡ Ready p o → Handled f m s q a t
+    unfolding finish
+    handled_ready e = let z : x ≡ Ready p o = sym is ∙ e in rw answers (handled {o = o} (rw z refl) (rw z acts))
 
-    pub handled : {t : Live} → t ≡ act f.sizes.pes f.peers c.pe o.effect s → Handled f m s q o.answer t
-    handled acts = record {
-      answers = ap (λ (u : Outcome). u.answer) said;
-      numbers = ap (λ (u : Outcome). numbered u.answer) said;
-      leaves = acts ∙ at-owner;
-      isolation = isolation;
-    }
+    pub handled_walk : {r : TranslationEntry} {d : DmaRequest} → c ≡ Walk p r d → o ≡ finish f.installed m (Walk p r d) → Handled f m s q a t
+    handled_walk {r} {d} e walked = let z : x ≡ Walk p r d = sym is ∙ e in rw answers (handled {o = o} (rw z walked) (rw z acts))
+
+  pub handled_fences : {b : Bool} {a : Answer} {t : Live} → c ≡ Fences b → a ≡ Done → t ≡ whole f.sizes.pes (Fence b) s → Handled f m s q a t
+  unfolding finish act
+  handled_fences {b} e answers acts = let z : x ≡ Fences b = sym is ∙ e in rw answers (handled {o = done (Fence b)} (rw z refl) acts)

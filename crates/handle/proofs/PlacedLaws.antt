@@ -11,10 +11,11 @@ use Rattle.kinds.specs.declared.outcome.Effect.TheVariants.{Keep}
 use Rattle.profile.proofs.RequestLaws.{Placed}
 use Rattle.profile.specs.Step.{finish, whole, act, act_by}
 use Rattle.profile.specs.Tables.{Tables, Live}
+use Rattle.handle.specs.Parts.{pe_of, is_kept, known}
 
 -- an effect is done at the owner, and that of the fence anywhere
 pub placed : (f : Tables) (m : List ℕ) (o : Owner) (x : Check) (s : Live) → Placed o x
-    → act f.sizes.pes f.peers (x).pe (finish f.installed m x).effect s ≡ act_by f o (finish f.installed m x).effect s
+    → act f.sizes.pes f.peers (pe_of x) (finish f.installed m x).effect s ≡ act_by f o (finish f.installed m x).effect s
 unfolding finish whole act act_by
 placed f m (Ok p) (Kept a) s h = refl
 placed f m (Err r) (Kept a) s h = refl
@@ -24,14 +25,14 @@ placed f m (Ok p) (Fences b) s h = refl
 placed f m (Err r) (Fences b) s h = refl
 
 -- a request that is answered: nothing is done
-pub kept_out : (i : ℕ) (m : List ℕ) (x : Check) → (x).kept ≡ true → finish i m x ≡ (x).outcome
+pub kept_out : (i : ℕ) (m : List ℕ) (x : Check) → is_kept x ≡ true → finish i m x ≡ known x
 unfolding finish
 kept_out i m (Kept a) h = refl
 kept_out i m (Ready p o) h = refl
 kept_out i m (Walk p r q) h = clash h refl
 kept_out i m (Fences b) h = refl
 
-pub kept-still : (x : Check) → (x).kept ≡ true → (x).outcome.effect ≡ Keep
+pub kept-still : (x : Check) → is_kept x ≡ true → (known x).effect ≡ Keep
 kept-still (Kept a) h = refl
 kept-still (Ready p o) h = clash h refl
 kept-still (Walk p r q) h = clash h refl

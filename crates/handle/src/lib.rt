@@ -3,103 +3,105 @@
 
 ghost use Rattle.std.specs.Prelude.{◌≡◌};
 ghost use Rattle.profile.specs.Freeze.{taken};
-ghost use Rattle.profile.specs.Step.{act};
-ghost use Rattle.tables.specs.Tables.{tables, live};
+ghost use Rattle.profile.specs.Step.{act, finish, whole};
+ghost use Rattle.kinds.specs.declared.answer.Answer.TheVariants.{Done};
+ghost use Rattle.kinds.specs.declared.outcome.Check.TheVariants.{Walk};
+ghost use Rattle.kinds.specs.declared.outcome.Effect.TheVariants.{Fence};
+ghost use Rattle.tables.specs.Lent.{seen, Same, Becomes};
 ghost use Rattle.handle.specs.Promise.{Handled};
 
 use decide;
+use dma;
 use endpoints;
 use fence;
 use freeze;
 use kinds::answer::Answer;
 use kinds::number::PeNumber;
-use kinds::outcome::Effect;
-use kinds::record::Sizes;
-use kinds::request::Request;
+use kinds::outcome::{Check, Effect, Outcome};
+use kinds::record::TranslationEntry;
+use kinds::request::{DmaRequest, Request};
 use msi::interrupts;
-use tables::sizes;
+use tables::lent::{Live, Tables};
 
 // The peers that a freeze takes with it: those of the PE, or none.
 fn taken(peers: &[u64], pe: PeNumber, with_peers: bool) -> [u64; 4]
     ensures { result ≡ taken with_peers peers.now pe }
 {
     if with_peers {
-        return endpoints::peer_vector(peers, pe);
+        endpoints::peer_vector(peers, pe)
+    } else {
+        [0; 4]
     }
-    [0, 0, 0, 0]
 }
 
 // An effect at a PE. N comes first.
-pub fn act_at(
-    pes: u64,
-    peers: &[u64],
-    interrupts: &mut [u64],
-    state: &mut [u64],
-    pe: PeNumber,
-    effect: Effect,
-)
-    ensures { live state.new interrupts.new ≡ act pes peers.now pe effect (live state.old interrupts.old) }
+#[tactic(auto, unfolding(profile::specs::Step::act, profile::specs::Step::whole))]
+pub fn act_at(pes: u64, peers: &[u64], live: &mut Live<'_>, pe: PeNumber, effect: Effect)
+    ensures { Becomes live.old live.new (act pes peers.now pe effect (seen live.old)) }
 {
     match effect {
-        Effect::Keep => {
-            return;
-        }
+        Effect::Keep => {}
         Effect::Freeze {
             error,
             peers: with_peers,
         } => {
             let vector = taken(peers, pe, with_peers);
-            freeze::freeze(state, pes, vector, pe, error);
-            return;
+            freeze::freeze(live.state, pes, vector, pe, error);
         }
-        Effect::Release { part } => {
-            endpoints::release(state, pe, part);
-            return;
-        }
+        Effect::Release { part } => endpoints::release(live.state, pe, part),
         Effect::Interrupt {
             number,
             priority,
             bits,
-        } => {
-            interrupts::store(interrupts, pe, number, priority, bits);
-            return;
-        }
-        Effect::Fence { bit } => {
-            fence::set_fence(state, pes, bit);
-            return;
-        }
+        } => interrupts::store(live.interrupts, pe, number, priority, bits),
+        Effect::Fence { bit } => fence::set_fence(live.state, pes, bit),
     }
 }
 
-// Any request on any tables.
-pub fn handle(
-    sizes: Sizes,
-    installed: u64,
-    requesters: &[u16],
-    entries: &[u64],
-    memory: &[u64],
-    peers: &[u64],
-    interrupts: &mut [u64],
-    windows: &[u64],
-    segments: &[u16],
-    state: &mut [u64],
-    request: Request,
-) -> Answer
-    ensures { Handled (tables sizes installed requesters.now entries.now peers.now windows.now segments.now) memory.now (live state.old interrupts.old) request result (live state.new interrupts.new) }
+// An outcome of a PE: its effect is done, and its answer returned.
+pub fn carry_out(tables: &Tables<'_>, live: &mut Live<'_>, pe: PeNumber, outcome: Outcome) -> Answer
+    ensures answers { result ≡ outcome.answer }
+    ensures leaves { Becomes live.old live.new (act tables.now.sizes.pes tables.now.peers pe outcome.effect (seen live.old)) }
 {
-    let lengths = sizes::lengths_of(
-        requesters, entries, memory, peers, interrupts, windows, segments, state,
-    );
-    let checked = decide::check(
-        sizes, installed, lengths, requesters, entries, interrupts, windows, segments, state,
-        request,
-    );
-    if checked.kept {
-        let known = checked.outcome;
-        return known.answer;
-    }
-    let outcome = decide::finish(installed, memory, checked);
-    let effect = outcome.effect;
-    act_at(sizes.pes, peers, interrupts, state, checked.pe, effect);
+    act_at(tables.sizes.pes, tables.peers, live, pe, outcome.effect);
     outcome.answer
+}
+
+// The fence bit becomes `bit`, which is done.
+#[tactic(auto, unfolding(profile::specs::Step::whole))]
+pub fn change_fence(tables: &Tables<'_>, live: &mut Live<'_>, bit: bool) -> Answer
+    ensures answers { result ≡ Done }
+    ensures leaves { Becomes live.old live.new (whole tables.now.sizes.pes (Fence bit) (seen live.old)) }
+{
+    fence::set_fence(live.state, tables.sizes.pes, bit);
+    Answer::Done
+}
+
+// A DMA of a PE by the walk of its page: the only reader of memory.
+pub fn walk(
+    tables: &Tables<'_>,
+    memory: &[u64],
+    pe: PeNumber,
+    entry: TranslationEntry,
+    dma: DmaRequest,
+) -> Outcome
+    ensures { result ≡ finish tables.now.installed memory.now (Walk pe entry dma) }
+{
+    dma::finish_walk(tables.installed, memory, pe, entry, dma)
+}
+
+// Any request on any tables.
+pub fn handle(tables: &Tables<'_>, memory: &[u64], live: &mut Live<'_>, request: Request) -> Answer
+    ensures handled { Handled tables.now memory.now (seen live.old) request result (seen live.new) }
+    ensures same { Same live.old live.new }
+{
+    match decide::check(tables, memory.len(), live, request) {
+        Check::Kept(answer) => answer,
+        Check::Ready(pe, outcome) => carry_out(tables, live, pe, outcome),
+        Check::Walk(pe, entry, dma) => {
+            let outcome = walk(tables, memory, pe, entry, dma);
+            carry_out(tables, live, pe, outcome)
+        }
+        Check::Fences(bit) => change_fence(tables, live, bit),
+    }
 }

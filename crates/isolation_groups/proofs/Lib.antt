@@ -1,4 +1,3 @@
 pub mod AnyLaws
-pub mod GroupLaws
 pub mod MemberCases
 pub mod MemberLaws

@@ -10,22 +10,17 @@ use profile::limits::MOST_PES;
 use tables::words;
 
 // Whether a number is that of a member.
+#[tactic(auto, unfolding(crate::specs::Member::member_of))]
 pub fn is_member(group: &[u64], number: u64) -> bool
     ensures { result ≡ member_of group.now number }
 {
-    if number < MOST_PES {
-        return is_listed(group, number as usize);
-    }
-    false
+    number < MOST_PES && is_listed(group, number as usize)
 }
 
 // Memory word `index` has a mark.
+#[tactic(auto, unfolding(crate::specs::Mark::any_mark))]
 pub fn has_mark(marks: &[u64], index: usize) -> bool
     ensures { result ≡ any_mark marks.now index }
 {
-    let bits = words::word(marks, index);
-    if bits == 0 {
-        return false;
-    }
-    true
+    words::word(marks, index) != 0
 }

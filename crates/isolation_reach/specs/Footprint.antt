@@ -2,7 +2,6 @@
 --     pe_turn g l m r p   r with the words that walks of PE p read in memory m, if it is a member of group g; l are the translation entries
 --     members_marks a b g l m n w  the same of all PEs below n, on a list of w words with no mark; a and b are the lengths of the lists that are lent for it,
 --                                 and where they are not that of memory nothing is marked
---     Emptied t v                 list t became v, with 0 in every word
 --     room_after a b m t          a list t that is lent for it, afterwards: 0 in every word, or as it was where nothing is marked
 --     MembersMarked n g l m r t u x v w   the marks r became x, and the lists t and u that are lent for it became v and w
 --     Exact g n l m t         THE DEFINITION OF EXACT MARKS: a word has a mark in t if some walk of a member reads it for an address of the DMA class,
@@ -24,9 +23,6 @@ pe_turn g l m r p =
 unfoldable pub members_marks : (a b : ℕ) → (g entries memory : List ℕ) → (pes words : ℕ) → List ℕ
 members_marks a b g l m n w =
     cond (eqb a (length m)) (cond (eqb b (length m)) (turns (pe_turn g l m) (replicate w 0) n) (replicate w 0)) (replicate w 0)
-
-pub record Emptied (t v : List ℕ) : Type 0 where
-  pub is : v ≡ replicate (length t) 0
 
 unfoldable pub room_after : (a b : ℕ) → (memory list : List ℕ) → List ℕ
 room_after a b m t = cond (eqb a (length m)) (cond (eqb b (length m)) (replicate (length t) 0) t) t

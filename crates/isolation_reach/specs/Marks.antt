@@ -15,8 +15,7 @@
 --     msi_page4k ..       the first page of the 32-bit MSI window, and how many it has, where pages have 4 KiB, and 64 KiB
 --     Gap, gap_of e h      the pages, of those that record h has, that are not walked, since all of their addresses are of the 32-bit MSI window: the first,
 --                         and how many
---     marks_by m e h r    r with the words that walks by entry e, which is record h of its PE, read for an address of the DMA class; marks_with: with the
---                         lists that are lent for it
+--     marks_by m e h r    r with the words that walks by entry e, which is record h of its PE, read for an address of the DMA class
 -- Assumes nothing.
 use Rattle.std.specs.Prelude.{Bool, true, false, cond, List, ℕ, zero, suc, ◌+◌, ◌-◌, ◌*◌, ◌/◌, ◌%◌, ◌^◌, leb, ltb, eqb, length, set, replicate}
 use Rattle.kinds.specs.Turns.{turns}
@@ -93,7 +92,3 @@ marks_by m e h r =
     cond (paged e)
     (marks_from m (index_bits e) (gap_of e h).page (gap_of e h).count (e.levels - 1) (replicate (length m) 0) (e.base / 8) r)
     r
-
--- the same by two lists of a and b words that are overwritten; nothing where they have not the length of memory
-unfoldable pub marks_with : (a b : ℕ) → List ℕ → TranslationEntry → (half : ℕ) → List ℕ → List ℕ
-marks_with a b m e h r = cond (eqb a (length m)) (cond (eqb b (length m)) (marks_by m e h r) r) r

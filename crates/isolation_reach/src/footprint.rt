@@ -1,9 +1,9 @@
 // Marks on the memory words that the walks of a group's members read for an address of the DMA class.
-ghost use Rattle.std.specs.Prelude.{◌≡◌, length};
+ghost use Rattle.std.specs.Prelude.{◌≡◌, ◌&&◌, eqb, length};
 ghost use Rattle.kinds.specs.Turns.{turns};
 ghost use Rattle.isolation_reach.specs.Marks.{marks_by};
 ghost use Rattle.profile.specs.Entry.{entry_in, half};
-ghost use Rattle.isolation_reach.specs.Footprint.{pe_turn, Emptied, MembersMarked};
+ghost use Rattle.isolation_reach.specs.Footprint.{pe_turn, MembersMarked};
 
 use crate::marks;
 use dma_entry::addresses;
@@ -33,6 +33,7 @@ fn mark_record(
 }
 
 // Marks the words that walks of PE `pe` read, if it is a member.
+#[tactic(auto, unfolding(crate::specs::Footprint::pe_turn))]
 fn mark_pe(
     group: &[u64],
     entries: &[u64],
@@ -45,7 +46,7 @@ fn mark_pe(
     requires { (length tables.old ≡ length memory.now) × (length under.old ≡ length memory.now) }
     ensures { marks.new ≡ pe_turn group.now entries.now memory.now marks.old pe }
 {
-    if isolation_groups::is_member(group, pe as u64) {
+    if isolation_groups::is_member(group, u64::from(pe)) {
         mark_record(entries, memory, marks, tables, under, pe, ByteAddress(0), 0);
         mark_record(
             entries,
@@ -61,6 +62,7 @@ fn mark_pe(
 }
 
 // Marks the words that walks of members among the first `pes` PEs read.
+#[tactic(auto, using(kinds::proofs::TurnsLaws::turns_next), unfolding(kinds::specs::Turns::turns))]
 fn mark_pes(
     pes: u16,
     group: &[u64],
@@ -73,18 +75,16 @@ fn mark_pes(
     requires { (length tables.old ≡ length memory.now) × (length under.old ≡ length memory.now) }
     ensures { marks.new ≡ turns (pe_turn group.now entries.now memory.now) marks.old pes }
 {
-    let mut pe: u16 = 0;
-    while pe < pes {
+    for pe in 0..pes {
         mark_pe(group, entries, memory, marks, tables, under, pe);
-        pe += 1;
     }
 }
 
-// A list that was lent to work in, as it is given back.
-fn empty(list: &mut [u64])
-    ensures { Emptied list.old list.new }
+// `tables` and `under` have the length of memory.
+fn has_room(memory: &[u64], tables: &[u64], under: &[u64]) -> bool
+    ensures { result ≡ (eqb (length tables.now) (length memory.now) && eqb (length under.now) (length memory.now)) }
 {
-    table_lists::clear(list);
+    tables.len() == memory.len() && under.len() == memory.len()
 }
 
 // Marks the words that walks of members read, and no others. `tables` and `under` are room to work in and become 0; nothing is marked where they have not
@@ -101,13 +101,9 @@ pub fn mark_members(
     ensures { MembersMarked pes group.now entries.now memory.now marks.old tables.old under.old marks.new tables.new under.new }
 {
     table_lists::clear(marks);
-    if tables.len() == memory.len() {
-        if under.len() == memory.len() {
-            mark_pes(pes, group, entries, memory, marks, tables, under);
-            empty(tables);
-            empty(under);
-            return;
-        }
-        return;
+    if has_room(memory, tables, under) {
+        mark_pes(pes, group, entries, memory, marks, tables, under);
+        table_lists::clear(tables);
+        table_lists::clear(under);
     }
 }

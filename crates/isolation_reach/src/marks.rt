@@ -1,13 +1,12 @@
 // Marks on the memory words that walks by an entry read for an address of the DMA class, found level by level.
 ghost use Rattle.std.specs.Prelude.{◌≡◌, ◌*◌, ◌<◌, ◌≤◌, length};
-ghost use Rattle.profile.specs.Entry.{paged, index_bits, most_table_code, offset_bits};
-ghost use Rattle.isolation_reach.specs.Marks.{gap_at, gap_of, marks_by, marks_with};
+ghost use Rattle.profile.specs.Entry.{index_bits, most_table_code, offset_bits};
+ghost use Rattle.isolation_reach.specs.Marks.{gap_at, gap_of, marks_by};
 
 use crate::levels;
-use dma_pages::page_tables::{Shape, shape_of};
+use dma_pages::page_tables::is_paged;
 use kinds::record::TranslationEntry;
 use profile::limits::CODE_BITS;
-use tables::words;
 
 // The first page of the 32-bit MSI window where pages have 4 KiB, and the pages that it has.
 const MSI_PAGE_4K: u64 = 0xFFFF0;
@@ -20,59 +19,44 @@ const MSI_PAGE_64K: u64 = 0xFFFF;
 const MSI_PAGES_64K: u64 = 1;
 
 // Pages that are not walked: the first, and how many.
-#[derive(Clone, Copy)]
+#[derive(Clone, Copy, Debug, PartialEq, Eq)]
 pub struct Gap {
     pub page: u64,
     pub count: u64,
 }
 
-// The entry is good and has pages.
-fn has_pages(entry: TranslationEntry) -> bool
-    ensures { result ≡ paged entry }
-{
-    if entry.table < 1 {
-        return false;
-    }
-    if entry.page == 0 {
-        return false;
-    }
-    let Shape::Pages { size: _, span: _ } = shape_of(entry) else {
-        return false;
-    };
-    true
-}
+// Kept: an empty gap in place of an `Option`, since `mark_levels` then has no case for it, as a loop has none for an empty range.
+const NO_GAP: Gap = Gap { page: 0, count: 0 };
 
 // `count` pages from `page`, where the table has that page.
+#[tactic(auto, unfolding(crate::specs::Marks::gap_at))]
 fn gap_at(entry: TranslationEntry, page: u64, count: u64) -> Gap
     requires { (entry.table ≤ most_table_code) × (index_bits entry * entry.levels ≤ offset_bits) }
     ensures { result ≡ gap_at entry page count }
 {
-    let shift = (entry.table + CODE_BITS) * entry.levels;
-    if page >> shift == 0 {
-        return Gap { page, count };
+    if page >> ((entry.table + CODE_BITS) * entry.levels) == 0 {
+        Gap { page, count }
+    } else {
+        NO_GAP
     }
-    Gap { page: 0, count: 0 }
 }
 
 // The pages of a record that are not walked, since their addresses are of the 32-bit MSI window. A page of 16 MiB or more has other addresses too.
+#[tactic(auto, unfolding(crate::specs::Marks::gap_of))]
 fn gap_of(entry: TranslationEntry, half: u64) -> Gap
     requires { (entry.table ≤ most_table_code) × (index_bits entry * entry.levels ≤ offset_bits) }
     ensures { result ≡ gap_of entry half }
 {
-    if half == 0 {
-        if entry.page == 1 {
-            return gap_at(entry, MSI_PAGE_4K, MSI_PAGES_4K);
-        }
-        if entry.page == 5 {
-            return gap_at(entry, MSI_PAGE_64K, MSI_PAGES_64K);
-        }
-        return Gap { page: 0, count: 0 };
+    match (half, entry.page) {
+        (0, 1) => gap_at(entry, MSI_PAGE_4K, MSI_PAGES_4K),
+        (0, 5) => gap_at(entry, MSI_PAGE_64K, MSI_PAGES_64K),
+        _ => NO_GAP,
     }
-    Gap { page: 0, count: 0 }
 }
 
 // Marks the words that walks by the entry, which is the record `half` of its PE, read. `tables` and `under` are overwritten.
-fn mark_pages(
+#[tactic(auto, using(crate::proofs::MarkingLaws::code_most, crate::proofs::MarkingLaws::all_bits, crate::proofs::MarkingLaws::some_level, crate::proofs::MarkingLaws::upper_bits), unfolding(crate::specs::Marks::marks_by))]
+pub(crate) fn mark_entry(
     memory: &[u64],
     entry: TranslationEntry,
     half: u64,
@@ -83,33 +67,20 @@ fn mark_pages(
     requires { (length tables.old ≡ length memory.now) × (length under.old ≡ length memory.now) }
     ensures { marks.new ≡ marks_by memory.now entry half marks.old }
 {
-    if has_pages(entry) {
+    if is_paged(entry) {
         let gap = gap_of(entry, half);
         let bits = entry.table + CODE_BITS;
-        let below = entry.levels - 1;
         let first = (entry.base / 8) as usize;
         levels::mark_levels(
-            memory, marks, tables, under, bits, gap.page, gap.count, below, first,
+            memory,
+            marks,
+            tables,
+            under,
+            bits,
+            gap.page,
+            gap.count,
+            entry.levels - 1,
+            first,
         );
-    }
-}
-
-// The same; nothing is marked where `tables` and `under` have not the length of memory.
-pub(crate) fn mark_entry(
-    memory: &[u64],
-    entry: TranslationEntry,
-    half: u64,
-    marks: &mut [u64],
-    tables: &mut [u64],
-    under: &mut [u64],
-)
-    ensures { marks.new ≡ marks_with (length tables.old) (length under.old) memory.now entry half marks.old }
-{
-    if tables.len() == memory.len() {
-        if under.len() == memory.len() {
-            mark_pages(memory, entry, half, marks, tables, under);
-            return;
-        }
-        return;
     }
 }

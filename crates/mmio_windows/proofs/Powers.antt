@@ -1,12 +1,12 @@
 -- A power of two by the count of its trailing zeros.
 --     trailing_pow        2 ^ j has j trailing zeros
---     power-is            the code's test is the definition's: x is 2 to the count of its zeros, in the range; power_below, power-above: outside it
+--     power_is            the code's test is the definition's: x is 2 to the count of its zeros, in the range; power_below, power_above: outside it
 --     power_of            what a number that passes the test is; wider: in a wider range too
---     multiple-is         a mask is a remainder by a power
+--     multiple_is         a mask is a remainder by a power
 --     begins-placed, placed-begins    b is a without the rest by n exactly where b is a multiple of n and a is one of the n bytes from b
 --     segment_is          a shift by the exponent less 8 is a quotient by the 256th part of the size
 -- Assumes nothing.
-use Rattle.std.proofs.Common.{◌≡◌, ℕ, zero, suc, ◌+◌, ◌-◌, ◌*◌, ◌/◌, ◌%◌, ◌^◌, ◌<◌, ◌≤◌, true, false, eqb, sym, refl, ap, ◌∙◌, le_of_suc-le-suc, mod-lt, mod-eq_of_lt, pow-suc, arith, pow_pos, pow-add, w64, Fits, eq-eqb, eqb-true}
+use Rattle.std.proofs.Common.{◌≡◌, ℕ, zero, suc, ◌+◌, ◌-◌, ◌*◌, ◌/◌, ◌%◌, ◌^◌, ◌<◌, ◌≤◌, true, false, eqb, sym, refl, ap, ◌∙◌, le_of_suc-le-suc, mod-lt, mod-eq_of_lt, pow-suc, arith, pow-add, eq-eqb, eqb-true}
 use native.Mathlib.Nat.{div-add-mod, mul-mod_right, mod-le, add-mul-mod_self_left}
 use lib.Bits.{bit_and, and_mask}
 use lib.Count.{count_trailing_zeros}
@@ -65,11 +65,11 @@ module _ (least most x : ℕ) (order : least ≤ most) (few : most < 64) where
   pub power_below : count_trailing_zeros 64 x < least → false ≡ is_power least (most - least) x
   power_below h = outside (λ p. omega (arith, p.low))
 
-  pub power-above : most < count_trailing_zeros 64 x → false ≡ is_power least (most - least) x
-  power-above h = outside (λ p. omega (arith, p.high))
+  pub power_above : most < count_trailing_zeros 64 x → false ≡ is_power least (most - least) x
+  power_above h = outside (λ p. omega (arith, p.high))
 
-  pub power-is : least ≤ count_trailing_zeros 64 x → count_trailing_zeros 64 x ≤ most → eqb x (1 * 2 ^ count_trailing_zeros 64 x % 2 ^ 64) ≡ is_power least (most - least) x
-  power-is l m =
+  pub power_is : least ≤ count_trailing_zeros 64 x → count_trailing_zeros 64 x ≤ most → eqb x (1 * 2 ^ count_trailing_zeros 64 x % 2 ^ 64) ≡ is_power least (most - least) x
+  power_is l m =
       let t = count_trailing_zeros 64 x in
       rw (one_shl t (omega arith))
       (by_cases (eqb x (2 ^ t))
@@ -101,20 +101,11 @@ module _ (a b n : ℕ) (some : 0 < n) where
       omega (arith, rest, l)
 
 module _ (n : ℕ) (p : WindowSize n) where
-  pub size_some : 1 ≤ n
-  size_some = rw p.is (pow_pos (count_trailing_zeros 64 n))
-
-  pub multiple-is : (x : ℕ) → eqb (bit_and x (n - 1)) 0 ≡ eqb (x % n) 0
-  multiple-is x = ap (λ (m : ℕ). eqb m 0) (mask_is x n (count_trailing_zeros 64 n) p.is)
+  pub multiple_is : (x : ℕ) → eqb (bit_and x (n - 1)) 0 ≡ eqb (x % n) 0
+  multiple_is x = ap (λ (m : ℕ). eqb m 0) (mask_is x n (count_trailing_zeros 64 n) p.is)
 
   pub segment_fits : 8 ≤ count_trailing_zeros 64 n
   segment_fits = omega (arith, p.low)
-
-  pub shift_fits : count_trailing_zeros 64 n - 8 < 64
-  shift_fits = omega (arith, p.high)
-
-  pub shift_wide : Fits w64 (count_trailing_zeros 64 n - 8)
-  shift_wide = omega (arith, p.high)
 
   pub segment_is : (b : ℕ) (a : ByteAddress) → (a.0 - b) / 2 ^ (count_trailing_zeros 64 n - 8) ≡ segment_of b n a
   unfolding segment_of

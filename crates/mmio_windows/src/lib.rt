@@ -3,11 +3,10 @@
 
 mod open_windows;
 
-ghost use Rattle.kinds.specs.Lookup.{hit};
-ghost use Rattle.std.specs.Prelude.{◌≡◌, ◌+◌, ◌-◌, ◌<◌, ◌≤◌, true};
+ghost use Rattle.std.specs.Prelude.{◌≡◌, ◌+◌, ◌-◌, ◌<◌, ◌≤◌, ◌==◌, ◌||◌, true, None};
 ghost use Rattle.kinds.specs.Words.{pe_at};
 ghost use Rattle.mmio_windows.specs.Size.{WindowSize};
-ghost use Rattle.profile.specs.Windows.{m64_count, segment_of, m64_pe, window, m64_from, route};
+ghost use Rattle.profile.specs.Windows.{m64_count, segment_of, m64_pe, window, m64, m64_from, route};
 ghost use Rattle.mmio_windows.specs.Takes.{m32_takes, m64_takes};
 
 use kinds::lookup::Hit;
@@ -33,20 +32,22 @@ const M32_WORDS: usize = limits::M32_WORDS as usize;
 const M64_WORDS: usize = limits::M64_WORDS as usize;
 
 // The segment of an address that its window covers.
+#[tactic(auto, using(crate::proofs::Powers::segment_is))]
 fn segment(base: u64, size: u64, address: ByteAddress) -> u64
     requires { (base ≤ address.0) × WindowSize size }
     ensures { result ≡ segment_of base size address }
 {
-    (address.0 - base) >> (u64::trailing_zeros(size) - SEGMENT_BITS)
+    (address.0 - base) >> (size.trailing_zeros() - SEGMENT_BITS)
 }
 
 // The PE of the segment, and the offset moved to the PCI base.
+#[tactic(auto, using(crate::proofs::RouteLaws::m32_from, crate::proofs::RouteLaws::m32_sized, crate::proofs::RouteLaws::m32_moved))]
 fn m32_hit(segments: &[u16], base: u64, size: u64, pci: u64, address: ByteAddress) -> Hit
     requires { m32_takes base size pci address ≡ true }
-    ensures { result ≡ hit (pe_at segments.now (segment_of base size address)) (record { 0 = address.0 - base + pci }) }
+    ensures { result ≡ record { pe = pe_at segments.now (segment_of base size address); pci = record { 0 = address.0 - base + pci } } }
 {
     let index = segment(base, size, address) as usize;
-    Hit::At {
+    Hit {
         pe: words::short_pe_word(segments, index),
         pci: ByteAddress(address.0 - base + pci),
     }
@@ -66,61 +67,82 @@ fn m64_at(windows: &[u64], k: usize) -> Window
     }
 }
 
+// A window of another mode is closed.
+fn is_on(mode: u64) -> bool
+    ensures { result ≡ (mode == 1 || mode == 2) }
+{
+    matches!(mode, 1 | 2)
+}
+
 // M64 window k is open and covers the address. The mode is asked first: of a window that is off, no other word is read.
+#[tactic(auto, using(crate::proofs::OpenLaws::m64_off, crate::proofs::OpenLaws::m64_on))]
 fn m64_takes(windows: &[u64], k: usize, address: ByteAddress) -> bool
     requires { k < m64_count }
     ensures { result ≡ m64_takes (window windows.now k) address }
 {
     let row = k * M64_WORDS;
     let mode = words::word(windows, M32_WORDS + (row + 2));
-    if mode == 0 {
-        return false;
-    }
-    if 2 < mode {
-        return false;
-    }
-    let base = words::word(windows, M32_WORDS + row);
-    let size = words::word(windows, M32_WORDS + (row + 1));
-    is_placed(M64_LEAST, M64_MOST, base, size, address)
+    is_on(mode)
+        && is_placed(
+            M64_LEAST,
+            M64_MOST,
+            words::word(windows, M32_WORDS + row),
+            words::word(windows, M32_WORDS + (row + 1)),
+            address,
+        )
 }
 
+#[tactic(auto, using(crate::proofs::RouteLaws::m64_begins, crate::proofs::RouteLaws::m64_sized), unfolding(profile::specs::Windows::m64_pe))]
 fn m64_pe(window: Window, address: ByteAddress) -> u64
     requires { m64_takes window address ≡ true }
     ensures { result ≡ m64_pe window address }
 {
     if window.mode == 1 {
-        return window.pe;
+        window.pe
+    } else {
+        segment(window.base, window.size, address)
     }
-    segment(window.base, window.size, address)
 }
 
-// The first of the M64 windows that takes the address. An M64 window keeps it.
-fn m64_route(windows: &[u64], address: ByteAddress) -> Hit
+// What M64 window k gives, if it takes the address. An M64 window keeps it.
+#[tactic(auto, using(crate::proofs::RouteLaws::m64_away, crate::proofs::RouteLaws::m64_there, crate::proofs::RouteLaws::m64_taken))]
+fn m64_hit(windows: &[u64], k: usize, address: ByteAddress) -> Option<Hit>
+    requires { k < m64_count }
+    ensures { result ≡ m64 (window windows.now k) address None }
+{
+    if !m64_takes(windows, k, address) {
+        return None;
+    }
+    Some(Hit {
+        pe: m64_pe(m64_at(windows, k), address),
+        pci: address,
+    })
+}
+
+// The first of the M64 windows that takes the address.
+#[tactic(auto, using(crate::proofs::RouteLaws::from_hit, crate::proofs::RouteLaws::from_next, crate::proofs::RouteLaws::from_end))]
+fn m64_route(windows: &[u64], address: ByteAddress) -> Option<Hit>
     ensures { result ≡ m64_from windows.now m64_count 0 address }
 {
-    let mut left = M64_COUNT;
-    while 0 < left {
-        let k = M64_COUNT - left;
-        if m64_takes(windows, k, address) {
-            return Hit::At {
-                pe: m64_pe(m64_at(windows, k), address),
-                pci: address,
-            };
+    for k in 0..M64_COUNT {
+        if let Some(hit) = m64_hit(windows, k, address) {
+            return Some(hit);
         }
-        left -= 1;
     }
-    Hit::Miss
+    None
 }
 
 // M32 is asked first.
-pub fn route(windows: &[u64], segments: &[u16], address: ByteAddress) -> Hit
+#[tactic(auto, using(crate::proofs::RouteLaws::route_m32, crate::proofs::RouteLaws::route_m64))]
+pub fn route(windows: &[u64], segments: &[u16], address: ByteAddress) -> Option<Hit>
     ensures { result ≡ route windows.now segments.now address }
 {
     let base = words::word(windows, 0);
     let size = words::word(windows, 1);
     let pci = words::word(windows, 2);
     if m32_takes(base, size, pci, address) {
-        return m32_hit(segments, base, size, pci, address);
+        Some(m32_hit(segments, base, size, pci, address))
+    } else {
+        m64_route(windows, address)
     }
-    m64_route(windows, address)
 }

@@ -5,7 +5,6 @@ ghost use Rattle.mmio_windows.specs.Size.{WindowSize};
 ghost use Rattle.mmio_windows.specs.Takes.{placed, m32_takes};
 
 use kinds::number::ByteAddress;
-use std::num::wrapping_sub_u64;
 
 // The sizes of M32, as exponents of two: 1 MiB to 4 GiB.
 const M32_LEAST: u32 = 20;
@@ -16,21 +15,17 @@ const M32_MOST: u32 = 32;
 const PCI_END: u64 = 0x1_0000_0000;
 
 // The size is a power of two, from 2^least to 2^most.
+#[tactic(auto, using(crate::proofs::Powers::power_is, crate::proofs::Powers::power_below, crate::proofs::Powers::power_above))]
 fn is_power(least: u32, most: u32, size: u64) -> bool
     requires { (least ≤ most) × (most < 64) }
     ensures { result ≡ is_power least (most - least) size }
 {
-    let bits = u64::trailing_zeros(size);
-    if bits < least {
-        return false;
-    }
-    if most < bits {
-        return false;
-    }
-    size == 1u64 << bits
+    let bits = size.trailing_zeros();
+    least <= bits && bits <= most && size == 1 << bits
 }
 
 // A multiple of a window's size.
+#[tactic(auto, using(crate::proofs::Powers::multiple_is))]
 fn is_multiple(value: u64, size: u64) -> bool
     requires { WindowSize size }
     ensures { result ≡ value % size == 0 }
@@ -40,27 +35,21 @@ fn is_multiple(value: u64, size: u64) -> bool
 
 // The size is a power of two from 2^least to 2^most, the base is a multiple of it, and the window covers the address: the base is the address without
 // the bits below the size. That is asked first, since it rules most windows out; of a size that is no power of two it says nothing.
+#[tactic(auto, using(crate::proofs::OpenLaws::placed_there, crate::proofs::OpenLaws::placed_away))]
 pub(crate) fn is_placed(least: u32, most: u32, base: u64, size: u64, address: ByteAddress) -> bool
     requires { (least ≤ most) × (most < 64) }
     ensures { result ≡ placed least most base size address }
 {
     let place = address.0;
-    let below = wrapping_sub_u64(size, 1);
-    if place - (place & below) == base {
-        return is_power(least, most, size);
-    }
-    false
+    place - (place & size.wrapping_sub(1)) == base && is_power(least, most, size)
 }
 
 // M32 is open and covers the address: the PCI base is a multiple of the size too, and the PCI side ends at or below 2^32.
+#[tactic(auto, using(crate::proofs::OpenLaws::m32_size, crate::proofs::OpenLaws::m32_fits, crate::proofs::OpenLaws::m32_end, crate::proofs::OpenLaws::m32_away, crate::proofs::OpenLaws::m32_no_pci))]
 pub(crate) fn m32_takes(base: u64, size: u64, pci: u64, address: ByteAddress) -> bool
     ensures { result ≡ m32_takes base size pci address }
 {
-    if is_placed(M32_LEAST, M32_MOST, base, size, address) {
-        if is_multiple(pci, size) {
-            return pci <= PCI_END - size;
-        }
-        return false;
-    }
-    false
+    is_placed(M32_LEAST, M32_MOST, base, size, address)
+        && is_multiple(pci, size)
+        && pci <= PCI_END - size
 }

@@ -26,32 +26,28 @@ pub fn interrupt_at(interrupts: &[u64], number: u64) -> Interrupt
     let index = number as usize;
     if index < interrupts.len() {
         let first = index * INTERRUPT_WORDS;
-        return Interrupt {
+        Interrupt {
             pe: words::pe_word(interrupts, first),
             server: words::word(interrupts, first + 1),
             priority: words::word(interrupts, first + 2),
             bits: words::word(interrupts, first + 3),
-        };
-    }
-    Interrupt {
-        pe: NO_PE,
-        server: 0,
-        priority: 0,
-        bits: 0,
+        }
+    } else {
+        Interrupt {
+            pe: NO_PE,
+            server: 0,
+            priority: 0,
+            bits: 0,
+        }
     }
 }
 
 // Server, priority and state are in their ranges.
+#[tactic(auto, unfolding(profile::specs::Msi::ranged))]
 pub fn in_range(interrupt: Interrupt) -> bool
     ensures { result ≡ ranged interrupt }
 {
-    if interrupt.server < SERVERS {
-        if interrupt.priority <= HOLDING {
-            return interrupt.bits <= P + Q;
-        }
-        return false;
-    }
-    false
+    interrupt.server < SERVERS && interrupt.priority <= HOLDING && interrupt.bits <= P + Q
 }
 
 // Priority and state of an interrupt are written by the PE that it belongs to, and by no other.
@@ -61,7 +57,7 @@ pub fn store(interrupts: &mut [u64], pe: PeNumber, number: u64, priority: u64, b
     let index = number as usize;
     if index < interrupts.len() {
         let first = index * INTERRUPT_WORDS;
-        if words::pe_word(interrupts, first) == pe.0 as u64 {
+        if words::pe_word(interrupts, first) == u64::from(pe.0) {
             words::put(interrupts, first + 2, priority);
             words::put(interrupts, first + 3, bits);
         }

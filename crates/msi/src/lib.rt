@@ -3,12 +3,9 @@
 
 pub mod interrupts;
 
-ghost use Rattle.std.specs.Prelude.{◌≡◌, ◌%◌};
+ghost use Rattle.std.specs.Prelude.{◌≡◌, ◌/◌, ◌%◌, ◌<◌};
 ghost use Rattle.std.specs.Int.Bits.{bit_or};
-ghost use Rattle.kinds.specs.declared.answer.Reason.TheVariants.{MsiRefused};
-ghost use Rattle.kinds.specs.Number.{no_word};
-ghost use Rattle.kinds.specs.Outcome.{failed};
-ghost use Rattle.profile.specs.Msi.{number32, number64, is_write, msi_formed, presents, arrives, delivered};
+ghost use Rattle.profile.specs.Msi.{number32, number64, msi_formed, presents, arrives, delivered};
 
 use interrupts::{P, Q, in_range};
 use kinds::answer::{Answer, Reason};
@@ -19,70 +16,62 @@ use kinds::request::Direction;
 use outcomes;
 use profile::limits::HOLDING;
 
-// The low five bits of data ORed with bits of the address.
-fn joined(data: u32, high: u64) -> u64
-    ensures { result ≡ bit_or («data» % 32) high }
+// The number of an MSI in a window for so many: the low five bits of data ORed with address bits from 4 up.
+fn msi_number<const NUMBERS: u64>(address: ByteAddress, data: u32) -> u64
+    requires { 0 < NUMBERS }
+    ensures { result ≡ bit_or («data» % 32) (address.0 / 16 % NUMBERS) }
 {
-    (data % 32) as u64 | high
+    u64::from(data % 32) | address.0 / 16 % NUMBERS
 }
 
 // The number of an MSI in the 32-bit window: by address bits 15..4.
+#[tactic(auto, unfolding(profile::specs::Msi::number32))]
 pub fn msi_number32(address: ByteAddress, data: u32) -> u64
     ensures { result ≡ number32 address «data» }
 {
-    joined(data, address.0 / 16 % 4096)
+    msi_number::<0x1000>(address, data)
 }
 
 // The number of an MSI in the 64-bit window: by address bits 19..4.
+#[tactic(auto, unfolding(profile::specs::Msi::number64))]
 pub fn msi_number64(address: ByteAddress, data: u32) -> u64
     ensures { result ≡ number64 address «data» }
 {
-    joined(data, address.0 / 16 % 65536)
-}
-
-fn is_write(direction: Direction) -> bool
-    ensures { result ≡ is_write direction }
-{
-    match direction {
-        Direction::Read => false,
-        Direction::Write => true,
-    }
+    msi_number::<0x1_0000>(address, data)
 }
 
 // A write of 4 bytes at a multiple of 4.
+#[tactic(auto, unfolding(profile::specs::Msi::msi_formed))]
 pub fn msi_formed(direction: Direction, address: ByteAddress, length: u64) -> bool
     ensures { result ≡ msi_formed direction address length }
 {
-    if is_write(direction) {
-        if length == 4 {
-            return address.0 % 4 == 0;
-        }
-        return false;
-    }
-    false
+    matches!(direction, Direction::Write) && length == 4 && address.0 % 4 == 0
 }
 
 // An arriving MSI is presented; else it is held.
+#[tactic(auto, unfolding(profile::specs::Msi::presents))]
 fn presented(priority: u64, bits: u64) -> bool
     ensures { result ≡ presents priority bits }
 {
-    if priority == HOLDING {
-        return false;
-    }
-    bits < P
+    priority != HOLDING && bits < P
 }
 
 // The outcome of an MSI that arrives: P is set where it is presented, Q where it is held. The other bit stays.
+#[tactic(auto, unfolding(profile::specs::Msi::presents, profile::specs::Msi::announced, profile::specs::Msi::arrived))]
 pub fn arrive(number: u64, interrupt: Interrupt) -> Outcome
     ensures { result ≡ arrives number interrupt }
 {
-    let priority = interrupt.priority;
-    let bits = interrupt.bits;
+    let Interrupt {
+        server,
+        priority,
+        bits,
+        ..
+    } = interrupt;
     if presented(priority, bits) {
-        return Outcome {
+        Outcome {
             answer: Answer::Msi {
                 number,
-                server: interrupt.server,
+                server,
                 priority,
             },
             effect: Effect::Interrupt {
@@ -90,33 +79,27 @@ pub fn arrive(number: u64, interrupt: Interrupt) -> Outcome
                 priority,
                 bits: bits + P,
             },
-        };
+        }
+    } else {
+        Outcome {
+            answer: Answer::Held { number },
+            effect: Effect::Interrupt {
+                number,
+                priority,
+                bits: bits / 2 * 2 + Q,
+            },
+        }
     }
-    Outcome {
-        answer: Answer::Held { number },
-        effect: Effect::Interrupt {
-            number,
-            priority,
-            bits: bits / 2 * 2 + Q,
-        },
-    }
-}
-
-fn msi_refused(address: ByteAddress) -> Outcome
-    ensures { result ≡ failed MsiRefused address 0 no_word }
-{
-    outcomes::failed(Reason::MsiRefused, address, 0, NO_WORD)
 }
 
 // An MSI of a PE, with its number and the words of that interrupt.
+#[tactic(auto, unfolding(profile::specs::Msi::delivered))]
 pub fn deliver(pe: PeNumber, address: ByteAddress, number: u64, interrupt: Interrupt) -> Outcome
     ensures { result ≡ delivered pe address number interrupt }
 {
-    if interrupt.pe == pe.0 as u64 {
-        if in_range(interrupt) {
-            return arrive(number, interrupt);
-        }
-        return msi_refused(address);
+    if interrupt.pe == u64::from(pe.0) && in_range(interrupt) {
+        arrive(number, interrupt)
+    } else {
+        outcomes::failed(Reason::MsiRefused, address, 0, NO_WORD)
     }
-    msi_refused(address)
 }

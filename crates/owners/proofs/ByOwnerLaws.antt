@@ -7,7 +7,7 @@
 use Rattle.kinds.specs.Lookup.{Owner}
 use Rattle.std.specs.Prelude.{◌≡◌, List, ℕ, Ok, Err}
 use Rattle.std.proofs.Math.Path.{refl}
-use Rattle.std.proofs.Common.{sym, ap, ◌∙◌}
+use Rattle.std.proofs.Common.{sym, ◌∙◌}
 use Rattle.kinds.specs.Answer.{refuse}
 use Rattle.kinds.specs.declared.outcome.Check.TheVariants.{Kept}
 use Rattle.kinds.specs.declared.answer.Reason.{Reason}
@@ -28,7 +28,7 @@ module _ (z : Sizes) (b : ℕ) (q e w g : List ℕ) (s : Live) where
 
   pub asked-case : {y x : Request} {c : Check} → y ≡ x → ((r : Reason) → unowned x r ≡ Kept (refuse r))
       → c ≡ (by_owner (λ p. ask z b q e w g s p x) (owner_in z q w g s.interrupts x)) → c ≡ (asked z b q e w g s y (owner_in z q w g s.interrupts y))
-  asked-case {x = x} i refused h = rw i (h ∙ ap (sym (asked_by x refused (owner_in z q w g s.interrupts x))))
+  asked-case {x = x} i refused h = rw i (h ∙ sym (asked_by x refused (owner_in z q w g s.interrupts x)))
 
 module _ (k : PeNumber → Check) (o : Owner) {i : Owner} (found : i ≡ o) where
   pub of_pe_lem : {p : PeNumber} {x : Check} → i ≡ Ok p → x ≡ (k p) → x ≡ (by_owner k o)

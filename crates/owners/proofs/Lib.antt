@@ -1,2 +1,1 @@
 pub mod ByOwnerLaws
-pub mod OwnerLaws

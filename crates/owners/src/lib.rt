@@ -6,56 +6,68 @@ ghost use Rattle.profile.specs.Tables.{named};
 ghost use Rattle.profile.specs.Owner.{of_requester, of_interrupt, of_hit, owner_in};
 
 use kinds::answer::Reason;
-use kinds::lookup::{Hit, Owner};
+use kinds::lookup::Hit;
 use kinds::number::PeNumber;
 use kinds::request::Request;
 use mmio_windows;
 use msi::interrupts;
 use tables::words;
 
-// The PE with this number, or nobody.
-pub fn named_pe(reason: Reason, pes: u16, number: u64) -> Owner
+// The PE with this number, or nobody, for the reason given.
+#[tactic(auto, unfolding(profile::specs::Tables::named))]
+pub fn named_pe(reason: Reason, pes: u16, number: u64) -> Result<PeNumber, Reason>
     ensures { result ≡ named reason pes number }
 {
-    if number < pes as u64 {
-        return Owner::Of(PeNumber(number as u16));
+    if number < u64::from(pes) {
+        Ok(PeNumber(number as u16))
+    } else {
+        Err(reason)
     }
-    Owner::Nobody(reason)
 }
 
 // The PE of a requester; `count` is R.
-pub fn of_requester(pes: u16, count: u64, requesters: &[u16], requester: u64) -> Owner
+pub fn of_requester(
+    pes: u16,
+    count: u64,
+    requesters: &[u16],
+    requester: u64,
+) -> Result<PeNumber, Reason>
     ensures { result ≡ of_requester pes count requesters.now requester }
 {
-    if requester < count {
-        let pe = words::short_pe_word(requesters, requester as usize);
-        return named_pe(Reason::UnknownRequester, pes, pe);
+    if requester >= count {
+        return Err(Reason::UnknownRequester);
     }
-    Owner::Nobody(Reason::UnknownRequester)
+    let pe = words::short_pe_word(requesters, requester as usize);
+    named_pe(Reason::UnknownRequester, pes, pe)
 }
 
 // The PE of an interrupt; `count` is M.
-pub fn of_interrupt(pes: u16, count: u64, interrupts: &[u64], number: u64) -> Owner
+pub fn of_interrupt(
+    pes: u16,
+    count: u64,
+    interrupts: &[u64],
+    number: u64,
+) -> Result<PeNumber, Reason>
     ensures { result ≡ of_interrupt pes count interrupts.now number }
 {
-    if number < count {
-        let record = interrupts::interrupt_at(interrupts, number);
-        return named_pe(Reason::BadFirmware, pes, record.pe);
+    if number >= count {
+        return Err(Reason::BadFirmware);
     }
-    Owner::Nobody(Reason::BadFirmware)
+    let interrupt = interrupts::interrupt_at(interrupts, number);
+    named_pe(Reason::BadFirmware, pes, interrupt.pe)
 }
 
 // The PE of the window that an address hits.
-pub fn of_hit(pes: u16, hit: Hit) -> Owner
+pub fn of_hit(pes: u16, hit: Option<Hit>) -> Result<PeNumber, Reason>
     ensures { result ≡ of_hit pes hit }
 {
-    match hit {
-        Hit::At { pe, pci: _ } => named_pe(Reason::NoWindow, pes, pe),
-        Hit::Miss => Owner::Nobody(Reason::NoWindow),
-    }
+    let hit = hit.ok_or(Reason::NoWindow)?;
+    named_pe(Reason::NoWindow, pes, hit.pe)
 }
 
-// The PE that a request belongs to.
+// The PE that a request belongs to, or the refusal that nobody's gets.
+// Kept: the tables one by one, as the C interface lends them to its caller, which has no others.
+#[tactic(auto, unfolding(profile::specs::Owner::owner_in))]
 pub fn owner_of(
     pes: u16,
     interrupt_count: u64,
@@ -65,28 +77,29 @@ pub fn owner_of(
     windows: &[u64],
     segments: &[u16],
     request: Request,
-) -> Owner
+) -> Result<PeNumber, Reason>
     ensures { result ≡ owner_in (record { pes = pes; interrupts = interrupt_count; requesters = requester_count }) requesters.now windows.now segments.now interrupts.now request }
 {
     match request {
         Request::Dma(dma) => of_requester(pes, requester_count, requesters, dma.requester),
-        Request::Load { address, width: _ } => of_hit(
+        Request::Load { address, .. } | Request::Store { address, .. } => of_hit(
             pes,
             mmio_windows::route(windows, segments, address),
         ),
-        Request::Store { address, width: _ } => of_hit(
+        Request::Error { requester } | Request::Fatal { requester } => of_requester(
             pes,
-            mmio_windows::route(windows, segments, address),
+            requester_count,
+            requesters,
+            requester,
         ),
-        Request::Error { requester } => of_requester(pes, requester_count, requesters, requester),
-        Request::Clear { pe, part: _ } => named_pe(Reason::BadFirmware, pes, pe),
-        Request::End { interrupt } => of_interrupt(pes, interrupt_count, interrupts, interrupt),
-        Request::Priority {
+        Request::Clear { pe, .. } => named_pe(Reason::BadFirmware, pes, pe),
+        Request::End { interrupt } | Request::Priority { interrupt, .. } => of_interrupt(
+            pes,
+            interrupt_count,
+            interrupts,
             interrupt,
-            priority: _,
-        } => of_interrupt(pes, interrupt_count, interrupts, interrupt),
-        Request::Fatal { requester } => of_requester(pes, requester_count, requesters, requester),
-        Request::FenceClear => Owner::Nobody(Reason::BadFirmware),
-        Request::Unnamed => Owner::Nobody(Reason::BadRequest),
+        ),
+        Request::FenceClear => Err(Reason::BadFirmware),
+        Request::Unnamed => Err(Reason::BadRequest),
     }
 }

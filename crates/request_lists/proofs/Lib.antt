@@ -1,2 +1,1 @@
-pub mod DecodeLaws
 pub mod ListLaws

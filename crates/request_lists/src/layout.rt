@@ -1,7 +1,8 @@
 // Requests and answers as words: the layout that `bridge::run::run` reads and writes.
-ghost use Rattle.std.specs.Prelude.{◌≡◌, cond, eqb};
-ghost use Rattle.kinds.specs.declared.request.Direction.TheVariants.{Read, Write};
-ghost use Rattle.request_words.specs.Layout.{decoded, decoded_dma, decoded_clear};
+ghost use Rattle.std.specs.Prelude.{◌≡◌};
+ghost use Rattle.std.specs.Option.{unwrap_or};
+ghost use Rattle.kinds.specs.declared.request.Request.TheVariants.{Unnamed};
+ghost use Rattle.request_words.specs.Layout.{decoded, decoded_clear, decoded_dma};
 
 use kinds::number::ByteAddress;
 use kinds::request::{Direction, DmaRequest, Part, Request};
@@ -12,97 +13,65 @@ pub const REQUEST_WORDS: usize = 8;
 // The words of one answer in the list of answers.
 pub const ANSWER_WORDS: usize = 8;
 
-// The direction that a word below 2 names.
-fn direction_of(word: u64) -> Direction
-    ensures { result ≡ cond (eqb word 0) Read Write }
-{
-    if word == 0 {
-        return Direction::Read;
-    }
-    Direction::Write
-}
+// The kinds of request.
+const DMA: u64 = 0;
 
-fn decode_dma(requester: u64, direction: u64, address: u64, length: u64, data: u64) -> Request
-    ensures { result ≡ decoded_dma requester direction address length «data» }
+const LOAD: u64 = 1;
+
+const STORE: u64 = 2;
+
+const ERROR: u64 = 3;
+
+const CLEAR: u64 = 4;
+
+const END: u64 = 5;
+
+const PRIORITY: u64 = 6;
+
+const FATAL: u64 = 7;
+
+const FENCE_CLEAR: u64 = 8;
+
+#[tactic(auto, unfolding(request_words::specs::Layout::decoded_dma))]
+fn dma(requester: u64, direction: u64, address: u64, length: u64, data: u64) -> Option<Request>
+    ensures { unwrap_or result Unnamed ≡ decoded_dma requester direction address length «data» }
 {
-    if 4294967296 <= data {
-        return Request::Unnamed;
-    }
-    if 1 < direction {
-        return Request::Unnamed;
-    }
-    Request::Dma(DmaRequest {
+    Some(Request::Dma(DmaRequest {
         requester,
-        direction: direction_of(direction),
+        direction: Direction::try_from(direction).ok()?,
         address: ByteAddress(address),
         length,
-        data: data as u32,
-    })
+        data: u32::try_from(data).ok()?,
+    }))
 }
 
-fn decode_clear(pe: u64, part: u64) -> Request
-    ensures { result ≡ decoded_clear pe part }
+#[tactic(auto, unfolding(request_words::specs::Layout::decoded_clear))]
+fn clear(pe: u64, part: u64) -> Option<Request>
+    ensures { unwrap_or result Unnamed ≡ decoded_clear pe part }
 {
-    if part == 0 {
-        return Request::Clear {
-            pe,
-            part: Part::Mmio,
-        };
-    }
-    if part == 1 {
-        return Request::Clear {
-            pe,
-            part: Part::Dma,
-        };
-    }
-    if part == 2 {
-        return Request::Clear {
-            pe,
-            part: Part::Record,
-        };
-    }
-    Request::Unnamed
+    let part = Part::try_from(part).ok()?;
+    Some(Request::Clear { pe, part })
 }
 
 // The request that six words name: its kind, and then its numbers.
+#[tactic(auto, unfolding(request_words::specs::Layout::decoded))]
 pub fn decode(kind: u64, a: u64, b: u64, c: u64, d: u64, e: u64) -> Request
     ensures { result ≡ decoded kind a b c d e }
 {
-    if kind == 0 {
-        return decode_dma(a, b, c, d, e);
-    }
-    if kind == 1 {
-        return Request::Load {
-            address: ByteAddress(a),
-            width: b,
-        };
-    }
-    if kind == 2 {
-        return Request::Store {
-            address: ByteAddress(a),
-            width: b,
-        };
-    }
-    if kind == 3 {
-        return Request::Error { requester: a };
-    }
-    if kind == 4 {
-        return decode_clear(a, b);
-    }
-    if kind == 5 {
-        return Request::End { interrupt: a };
-    }
-    if kind == 6 {
-        return Request::Priority {
+    let address = ByteAddress(a);
+    match kind {
+        DMA => dma(a, b, c, d, e).unwrap_or(Request::Unnamed),
+        LOAD => Request::Load { address, width: b },
+        STORE => Request::Store { address, width: b },
+        ERROR => Request::Error { requester: a },
+        CLEAR => clear(a, b).unwrap_or(Request::Unnamed),
+        END => Request::End { interrupt: a },
+        PRIORITY => Request::Priority {
             interrupt: a,
             priority: b,
-        };
+        },
+        FATAL => Request::Fatal { requester: a },
+        FENCE_CLEAR => Request::FenceClear,
+        _ => Request::Unnamed,
     }
-    if kind == 7 {
-        return Request::Fatal { requester: a };
-    }
-    if kind == 8 {
-        return Request::FenceClear;
-    }
-    Request::Unnamed
 }

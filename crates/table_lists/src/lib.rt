@@ -8,41 +8,40 @@ ghost use Rattle.table_lists.specs.Once.{once};
 pub fn once(pes: u64) -> u64
     ensures { result ≡ once pes }
 {
-    if pes == 0 {
-        return 0;
-    }
-    1
+    u64::from(pes != 0)
 }
 
 // How many words of a list are in use: `count` times `each`, or all where it has no more.
 pub fn used(count: u64, each: u64, length: usize) -> usize
     ensures { result ≡ min (count * each) length }
 {
-    if each == 0 {
-        return 0;
-    }
-    if (length as u64) / each < count {
-        return length;
-    }
-    (count * each) as usize
+    count.saturating_mul(each).min(length as u64) as usize
 }
 
-pub fn clear(list: &mut [u64])
-    ensures { list.new ≡ replicate (length list.old) 0 }
-{
-    let mut i = 0;
-    while i < list.len() {
-        list[i] = 0;
-        i += 1;
-    }
+// A word of a lent list, of 64 bits or of 16.
+pub trait Word: Copy {
+    ghost ZERO: { Self };
+
+    const ZERO: Self;
 }
 
-pub fn clear_short(table: &mut [u16])
-    ensures { table.new ≡ replicate (length table.old) 0 }
+impl Word for u64 {
+    ghost ZERO = { 0 };
+
+    const ZERO: u64 = 0;
+}
+
+impl Word for u16 {
+    ghost ZERO = { 0 };
+
+    const ZERO: u16 = 0;
+}
+
+// Every word of the list becomes 0.
+pub fn clear<T: Word>(list: &mut [T])
+    ensures { list.new ≡ replicate (length list.old) T.ZERO }
 {
-    let mut i = 0;
-    while i < table.len() {
-        table[i] = 0;
-        i += 1;
+    for word in list.iter_mut() {
+        *word = T::ZERO;
     }
 }

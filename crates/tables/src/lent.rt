@@ -1,8 +1,11 @@
 // The lent tables as two values: those that no request writes, and those that requests write. Memory is in neither: only a walk is lent it.
-ghost use Rattle.std.specs.Prelude.{◌≡◌};
-ghost use Rattle.profile.specs.Tables.{lengths};
+ghost use Rattle.std.specs.Prelude.{◌≡◌, cond, Ok, Err};
+ghost use Rattle.kinds.specs.declared.answer.Reason.TheVariants.{TableLength};
+ghost use Rattle.profile.specs.Tables.{lengths, sized};
 ghost use Rattle.tables.specs.Lent.{seen};
 
+use crate::sizes::pes_of;
+use kinds::answer::Reason;
 use kinds::record::{Lengths, Sizes};
 use std::marker::Model;
 
@@ -48,5 +51,12 @@ impl<'a> Tables<'a> {
             segments: self.segments.len() as u64,
             state: live.state.len() as u64,
         }
+    }
+
+    // N, or reason 1. It does not hold where N, M and R and all lengths are on the table of the profile. `memory` is the length of memory, in words.
+    pub fn sized_pes(&self, memory: usize, live: &Live<'_>) -> Result<u16, Reason>
+        ensures { result ≡ cond (sized self.now.sizes (lengths self.now memory (seen live.now))) (Ok self.now.sizes.pes) (Err TableLength) }
+    {
+        pes_of(self.sizes, self.lengths(memory, live))
     }
 }

@@ -1,9 +1,11 @@
 // Reason 1: whether the numbers N, M and R and the lengths of the lent tables are on the table of the profile.
-ghost use Rattle.std.specs.Prelude.{◌≡◌, ◌≤◌};
+ghost use Rattle.std.specs.Prelude.{◌≡◌, ◌≤◌, cond, Ok, Err};
+ghost use Rattle.kinds.specs.declared.answer.Reason.TheVariants.{TableLength};
 ghost use Rattle.kinds.specs.Tests.{all};
 ghost use Rattle.profile.specs.Tables.{most_pes, most_interrupts, limits, dma_lengths, other_lengths, sized};
 ghost use Rattle.tables.specs.Tables.{lengths_of};
 
+use kinds::answer::Reason;
 use kinds::record::{Lengths, Sizes};
 use profile::limits::{
     ENTRY_WORDS, FENCE_WORDS, INTERRUPT_WORDS, MOST_INTERRUPTS, MOST_MEMORY, MOST_PES,
@@ -40,6 +42,18 @@ pub fn sized(sizes: Sizes, lengths: Lengths) -> bool
     ensures { result ≡ sized sizes lengths }
 {
     in_limits(sizes) && dma_tables(sizes, lengths) && other_tables(sizes, lengths)
+}
+
+// N, or reason 1.
+#[tactic(auto, using(crate::proofs::SizedLaws::pes_fit))]
+pub(crate) fn pes_of(sizes: Sizes, lengths: Lengths) -> Result<u16, Reason>
+    ensures { result ≡ cond (sized sizes lengths) (Ok sizes.pes) (Err TableLength) }
+{
+    if sized(sizes, lengths) {
+        Ok(sizes.pes as u16)
+    } else {
+        Err(Reason::TableLength)
+    }
 }
 
 fn in_limits(sizes: Sizes) -> bool

@@ -1,16 +1,20 @@
--- `cache_sweeps::sweep` meets its contract. Assumes nothing.
-use Rattle.cache_sweeps.proofs.SweepLaws as laws
-use mathlib.Core.Path.{refl}
+-- `cache_sweeps::sweep` meets its contract. The invariant: by each test that the closure is, the turns so far. Assumes nothing.
+use mathlib.Core.Path.{refl, ap, ◌∙◌}
 use native.Mathlib.Omega.{arith}
-use borrow.Author.Rules.{rules}
+use lib.ListN.{length}
 use Rattle.kinds.specs.Turns.{turns}
+use Rattle.cache_sweeps.proofs.SweepLaws as laws
+use Rattle.cache_sweeps.proofs.TurnLaws.{length_cleared}
 use Rattle.cache_sweeps.proofs.sweep.Goals as goal
 
-pub loop-k-init : goal.loop-k-init
-loop-k-init c = (omega arith, refl, unfold turns in refl)
+pub loop-slot-init : goal.loop-slot-init
+loop-slot-init g c = (refl, λ d p. unfold turns in refl)
 
-pub loop-k-preserved : goal.loop-k-preserved
-loop-k-preserved c = search (rules, laws.turn_length, laws.turn-next)
+pub loop-slot-preserved : goal.loop-slot-preserved
+loop-slot-preserved g c = (
+  ap length c.empty.ensures ∙ length_cleared _ _ _ ∙ c.loop-slot.invariant.0,
+  λ d p. laws.turn-next d _ _ (c.loop-slot.invariant.1 d p) (laws.turn_is d _ _ (c.is_dropped-is_dropped.ensures d p) c.empty.ensures),
+)
 
 pub returns : goal.returns
-returns c = search laws.turn_last
+returns g c = λ d p. laws.turn_last d _ _ (c.loop-slot.invariant.1 d p) c.loop-slot.invariant.0 (omega arith)

@@ -8,28 +8,28 @@ pub returns-then-fenced : goal.returns-then-fenced
 unfolding stops shut
 returns-then-fenced c = search fenced.stopped
 
-pub returns-in-Dma : goal.returns-in-Dma
-returns-in-Dma c = search (fenced.passed, laws.dma-case)
-
 pub returns-then-fenced-2 : goal.returns-then-fenced-2
 returns-then-fenced-2 c = search fenced.load-stopped
-
-pub returns-in-Load : goal.returns-in-Load
-returns-in-Load c = search (fenced.passed, laws.load-case)
 
 pub returns-then-fenced-3 : goal.returns-then-fenced-3
 unfolding stops shut
 returns-then-fenced-3 c = search fenced.stopped
 
-pub returns-in-Store : goal.returns-in-Store
-returns-in-Store c = search (fenced.passed, laws.store-case)
-
 pub returns-then-fenced-4 : goal.returns-then-fenced-4
 unfolding stops shut
 returns-then-fenced-4 c = search fenced.stopped
 
-pub returns-in-Error : goal.returns-in-Error
-returns-in-Error c = search (fenced.passed, laws.error_case)
+pub returns-else-fenced : goal.returns-else-fenced
+returns-else-fenced c = search (fenced.passed, laws.dma-case)
+
+pub returns-else-fenced-2 : goal.returns-else-fenced-2
+returns-else-fenced-2 c = search (fenced.passed, laws.load-case)
+
+pub returns-else-fenced-3 : goal.returns-else-fenced-3
+returns-else-fenced-3 c = search (fenced.passed, laws.store-case)
+
+pub returns-else-fenced-4 : goal.returns-else-fenced-4
+returns-else-fenced-4 c = search (fenced.passed, laws.error_case)
 
 pub returns-in-Clear : goal.returns-in-Clear
 unfolding stops

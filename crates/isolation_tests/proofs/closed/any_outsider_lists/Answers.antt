@@ -1,13 +1,12 @@
--- `isolation_tests::closed::any_outsider_lists` meets its contract. The invariant: none of the numbers passed is found. The measure is how many are left. Assumes nothing.
-use Rattle.isolation_groups.proofs.AnyLaws.{any_found, any_next, any-done}
-use borrow.Author.Rules.{rules}
+-- `isolation_tests::closed::any_outsider_lists` meets its contract. Assumes nothing.
+use Rattle.std.proofs.Common.{rules, tests, refl, arith, ◌∙◌}
+use Rattle.std.proofs.lemmas.Iterator.{YieldsList-from_range}
+use Rattle.std.proofs.lemmas.Iterator.Search.{any_from_yields_List}
+use Rattle.isolation_tests.specs.Group.{outsider_lists}
+use Rattle.isolation_tests.proofs.Laws.{any_range}
 use Rattle.isolation_tests.proofs.closed.any_outsider_lists.Goals as goal
 
-pub returns-then-outsider_lists : goal.returns-then-outsider_lists
-returns-then-outsider_lists c = search any_found
-
-pub loop-left-preserved : goal.loop-left-preserved
-loop-left-preserved c = search (rules, any_next)
-
 pub returns : goal.returns
-returns c = search any-done
+returns c =
+    any_from_yields_List (outsider_lists c.args.group.now c.args.peers.now c.args.pes) _ _ _ c.any.ensures.ran (YieldsList-from_range 0 c.args.pes c.args.pes refl (omega arith)) (λ x b q k. search (rules, tests))
+    ∙ any_range (outsider_lists c.args.group.now c.args.peers.now c.args.pes) c.args.pes
