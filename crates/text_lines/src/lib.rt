@@ -31,6 +31,7 @@ pub fn parse(line: &[u8]) -> Result<Line, BadLine>
 }
 
 // By its first field; `fields` are those after it.
+#[tactic(auto, using(replay_text::proofs::FormLaws::picks))]
 fn read_line(word: &[u8], fields: Fields<'_>) -> Result<Line, BadLine>
     ensures { result ≡ spec.formed spec.forms word.now fields.entry }
 {

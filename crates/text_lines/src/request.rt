@@ -9,6 +9,7 @@ use replay_text::{BadLine, Line};
 use text_fields::{Fields, same};
 
 // By its first field; `fields` are those after it.
+#[tactic(auto, using(replay_text::proofs::FormLaws::picks))]
 pub(crate) fn read_request(word: &[u8], fields: Fields<'_>) -> Result<Line, BadLine>
     ensures { result ≡ spec.formed spec.request_forms word.now fields.entry }
 {
