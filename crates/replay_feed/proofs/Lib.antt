@@ -1,4 +1,3 @@
 pub mod FeedCases
 pub mod FeedLaws
-pub mod Laws
 pub mod TakeLaws

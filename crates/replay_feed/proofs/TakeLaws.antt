@@ -1,7 +1,7 @@
 -- What the functions over the bytes of an input cite.
 --     keep_start, keep_byte, keep_over, keep_feed, keep_done      the bytes of a line: what is kept from the start is what is kept from here
 --     moved_feed, moved_all               a line feed, and an input that ended before one
---     end_none, end-some, end_length, end_feed    the end of the input
+--     end_length, end_feed                the end of the input
 --     Here, run_start, run_within, run_more, run_less, run_done   the lines of an input: the run from the start is the run from here, i bytes later
 -- Assumes nothing.
 use mathlib.Core.Path.{◌≡◌, refl, sym, ap, subst, ◌∙◌}
@@ -20,14 +20,16 @@ use Rattle.kinds.proofs.Tests.{by_cases, clash}
 use Rattle.replay_session.specs.EndPromise.{EndedTo}
 use Rattle.replay_session.specs.Standing.{Standing, Buffers, buffers_of, progress_of, free, line_done, fits}
 use Rattle.replay_session.specs.declared.Ended.{Ended}
+use Rattle.replay_session.specs.declared.Progress.{Progress}
+use Rattle.replay_text.specs.declared.NoRoom.{NoRoom}
 use Rattle.replay_text.proofs.SessionIsolation.{session-isolation}
 use Rattle.replay_text.specs.Stream.{line_kept, before}
 use Rattle.replay_text.proofs.WholeLaws.{whole}
 use Rattle.replay_feed.specs.Feed.{Buffer, kept, kept_all, buffer_of, with_buffer, byte_in, Fed, stopped, later, feed_all, end_bytes, end_of}
 use Rattle.replay_feed.proofs.FeedLaws.{in_text}
-use Rattle.replay_feed.specs.Promise.{KeptTo, MovedTo, moved_by, FedAs}
-use Rattle.replay_feed.specs.declared.Fed.{Fed as FedResult}
-use Rattle.replay_feed.specs.declared.Fed.TheVariants.{To, Unfit}
+use Rattle.replay_feed.specs.Promise.{KeptTo, MovedTo, moved_by, FedResult, FedAs}
+use Rattle.replay_feed.specs.declared.Unfit.{Unfit}
+use Rattle.std.specs.Prelude.{Result, Ok, Err, is_ok}
 use Rattle.replay_feed.specs.declared.Kept.{Kept}
 use Rattle.replay_feed.specs.declared.Moved.{Moved}
 
@@ -123,14 +125,14 @@ feed_after (x ∷ l) h =
     by_cases (eqb x line_feed) (λ t. rw t (eqb-true x line_feed t)) (λ t. rw t (feed_after l (let g = rw t at h in omega arith)))
 
 -- a line feed
-module _ (t : Standing) (l : List ℕ) {e : Ended} {u : Standing} (d : EndedTo t e u) where
-  run_ended : e.ended ≡ true → feed_all t (10 ∷ l) ≡ later 1 (feed_all u l)
+module _ (t : Standing) (l : List ℕ) {e : Result Ended NoRoom} {u : Standing} (d : EndedTo t e u) where
+  run_ended : is_ok e ≡ true → feed_all t (10 ∷ l) ≡ later 1 (feed_all u l)
   unfolding feed_all byte_in
   run_ended h =
       let f : free t ≡ true = sym d.could ∙ h in
       rw (f, d.leaves)
 
-  run_stuck : e.ended ≡ false → feed_all t (10 ∷ l) ≡ stopped u
+  run_stuck : is_ok e ≡ false → feed_all t (10 ∷ l) ≡ stopped u
   unfolding feed_all line_done
   run_stuck h =
       let f : free t ≡ false = sym d.could ∙ h in
@@ -156,7 +158,7 @@ module _ (s : Standing) (l : List ℕ) (i : ℕ) {k : Kept} {c : Buffer} (h : Ke
     fit = fit_is (with_buffer s c) kept-few;
   }
 
-  module _ (f : k.next < length l) {e : Ended} {u : Standing} (d : EndedTo (with_buffer s c) e u) where
+  module _ (f : k.next < length l) (p : Progress) (a : ℕ) {e : Result Ended NoRoom} {u : Standing} (d : EndedTo (with_buffer s c) e u) where
     feed_there : drop k.next l ≡ 10 ∷ drop (suc k.next) l
     feed_there =
         let x : get_or l k.next 0 ≡ 10 = rw h.next (sym (get_or-drop i l (before (drop i l)) 0) ∙ feed_after (drop i l) (omega (arith, h.next, length-drop i l))) in
@@ -165,7 +167,7 @@ module _ (s : Standing) (l : List ℕ) (i : ℕ) {k : Kept} {c : Buffer} (h : Ke
     fit-after : fits u ≡ true
     fit-after = rw d.leaves (done-fit (with_buffer s c) kept-few)
 
-    moved_end : e.ended ≡ true → MovedTo s l i u (moved_by e k.next (length l))
+    moved_end : is_ok e ≡ true → MovedTo s l i u (moved_by p a e k.next (length l))
     moved_end o = rw o (record {
       more = true;
       bytes = before (drop i l) + 1;
@@ -176,7 +178,7 @@ module _ (s : Standing) (l : List ℕ) (i : ℕ) {k : Kept} {c : Buffer} (h : Ke
       fit = fit-after;
     })
 
-    moved_stop : e.ended ≡ false → MovedTo s l i u (moved_by e k.next (length l))
+    moved_stop : is_ok e ≡ false → MovedTo s l i u (moved_by p a e k.next (length l))
     moved_stop o = rw o (record {
       more = false;
       bytes = before (drop i l);
@@ -187,8 +189,8 @@ module _ (s : Standing) (l : List ℕ) (i : ℕ) {k : Kept} {c : Buffer} (h : Ke
       fit = fit-after;
     })
 
-    pub moved_feed : MovedTo s l i u (moved_by e k.next (length l))
-    moved_feed = by_cases e.ended moved_end moved_stop
+    pub moved_feed : MovedTo s l i u (moved_by p a e k.next (length l))
+    moved_feed = by_cases (is_ok e) moved_end moved_stop
 
 -- here: the replay stands at t after i bytes of l; more can be taken, up to the end n of l, or n is i
 pub record Here (s : Standing) (l : List ℕ) (t : Standing) (i n : ℕ) : Type 0 where
@@ -210,7 +212,7 @@ module _ {s : Standing} {l : List ℕ} {t : Standing} {i n : ℕ} (h : Here s l 
       e ∙ rw (drop_of_length-le l {i = i} (omega (arith, g, m)), add-zero i))
       (λ b. let e : feed_all s l ≡ later i (stopped t) = rw b at h.same in e ∙ rw (add-zero i))
 
-  pub run_done : {f : Bool} → n ≤ i → f ≡ fits s → f ≡ true → FedAs s l (To (progress_of t) i t.at) (buffers_of t)
+  pub run_done : {f : Bool} → n ≤ i → f ≡ fits s → f ≡ true → FedAs s l (Ok (record { progress = progress_of t; bytes = i; at = t.at })) (buffers_of t)
   run_done g a o = record { returns = rw (← a, o, ended_here g); leaves = rw (← a, o, ended_here g); text = in_text; whole = whole; isolation = session-isolation }
 
   -- there is more
@@ -240,18 +242,12 @@ module _ {s : Standing} {l : List ℕ} {t : Standing} {i n : ℕ} (h : Here s l 
           (λ b. let f : m.limit ≡ length l = d.limit ∙ rw b in omega (arith, f, to_end, g, d.next, d.some b))
           (λ b. let f : m.limit ≡ m.next = d.limit ∙ rw b in omega (arith, f, g))
 
-pub fed-unfit : (s : Standing) (l : List ℕ) {f : Bool} → f ≡ fits s → f ≡ false → FedAs s l Unfit (buffers_of s)
+pub fed-unfit : (s : Standing) (l : List ℕ) {f : Bool} {b : Unfit} → f ≡ fits s → f ≡ false → FedAs s l (Err b) (buffers_of s)
 fed-unfit s l a o = record { returns = rw (← a, o); leaves = rw (← a, o); text = in_text; whole = whole; isolation = session-isolation }
 
 -- `finish`
 pub end_feed : (s : Standing) {n : ℕ} {r : FedResult} {c : Buffers} → n ≡ end_bytes s.pending → FedAs s (take n (10 ∷ [])) r c → FedAs s (end_of s) r c
 end_feed s h f = rw (← h) f
-
-pub end_none : (n : ℕ) → n ≡ 0 → 0 ≡ end_bytes n
-end_none n h = rw (eq-eqb n 0 h)
-
-pub end-some : (n : ℕ) → (n ≡ 0 → ⊥) → 1 ≡ end_bytes n
-end-some n h = rw (ne_eqb n 0 h)
 
 pub end_length : (m : ℕ) {n : ℕ} → n ≡ end_bytes m → n ≡ length {A = ℕ} (take n (10 ∷ []))
 end_length m h = rw h (by_cases (eqb m 0) (λ o. rw o) (λ o. rw o))

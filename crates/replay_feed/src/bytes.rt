@@ -1,12 +1,14 @@
 // The reader: the bytes of a line of an input, and the line that they end.
 ghost use Rattle.std.specs.Prelude.{◌≡◌, ◌^◌, ◌≤◌, ◌<◌, length};
-ghost use Rattle.replay_session.specs.Standing.{buffers, standing};
+ghost use Rattle.replay_tables.specs.Whole.{Same};
+ghost use Rattle.replay_session.specs.Standing.{lent_buffers, standing};
 ghost use Rattle.replay_text.specs.Stream.{line_kept};
 ghost use Rattle.replay_feed.specs.Promise.{KeptTo, MovedTo, moved_by};
 
 use crate::{Kept, LINE_KEPT, Moved};
 use replay_session::{Ended, Progress, end_line};
-use replay_text::LINE_FEED;
+use replay_tables::lent::Lent;
+use replay_text::{LINE_FEED, NoRoom};
 
 // The bytes of a line from place `from` of the input on, kept after those that are pending.
 fn keep(line: &mut [u8], pending: usize, input: &[u8], from: usize) -> Kept
@@ -15,6 +17,7 @@ fn keep(line: &mut [u8], pending: usize, input: &[u8], from: usize) -> Kept
 {
     let mut end = pending;
     let mut i = from;
+    // Kept: the place of the input and that of the buffer move by steps of their own.
     while i < input.len() {
         let byte = input[i];
         if byte == LINE_FEED {
@@ -38,38 +41,36 @@ fn keep(line: &mut [u8], pending: usize, input: &[u8], from: usize) -> Kept
 }
 
 // The line feed at place `next` of an input of `length` bytes was taken if its line could end; if not, no byte after it is.
-fn moved_by(ended: Ended, next: usize, length: usize) -> Moved
+fn moved_by(
+    held: Progress,
+    at: usize,
+    ended: Result<Ended, NoRoom>,
+    next: usize,
+    length: usize,
+) -> Moved
     requires { next < 2 ^ 63 }
-    ensures { result ≡ moved_by ended next length }
+    ensures { result ≡ moved_by held at ended next length }
 {
-    let progress = ended.progress;
-    if ended.ended {
-        return Moved {
-            progress,
+    match ended {
+        Ok(ended) => Moved {
+            progress: ended.progress,
             at: ended.at,
             next: next + 1,
             limit: length,
-        };
-    }
-    Moved {
-        progress,
-        at: ended.at,
-        next,
-        limit: next,
+        },
+        Err(NoRoom) => Moved {
+            progress: held,
+            at,
+            next,
+            limit: next,
+        },
     }
 }
 
 // The bytes of an input from place `from` on, up to the end of a line: the line is read, done and answered.
 pub(crate) fn take_line(
     progress: Progress,
-    requesters: &mut [u16],
-    entries: &mut [u64],
-    memory: &mut [u64],
-    peers: &mut [u64],
-    interrupts: &mut [u64],
-    windows: &mut [u64],
-    segments: &mut [u16],
-    state: &mut [u64],
+    lent: &mut Lent<'_>,
     line: &mut [u8],
     input: &[u8],
     from: usize,
@@ -77,7 +78,8 @@ pub(crate) fn take_line(
     at: usize,
 ) -> Moved
     requires { (length line.old ≡ line_kept) × (progress.pending ≤ line_kept) × (from < length input.now) }
-    ensures { MovedTo (standing progress (buffers requesters.old entries.old memory.old peers.old interrupts.old windows.old segments.old state.old line.old out.old) at) input.now from (standing result.progress (buffers requesters.new entries.new memory.new peers.new interrupts.new windows.new segments.new state.new line.new out.new) result.at) result }
+    ensures moved { MovedTo (standing progress (lent_buffers lent.old line.old out.old) at) input.now from (standing result.progress (lent_buffers lent.new line.new out.new) result.at) result }
+    ensures same { Same lent.old lent.new }
 {
     let kept = keep(line, progress.pending, input, from);
     let extent = progress.extent;
@@ -88,11 +90,8 @@ pub(crate) fn take_line(
     };
     let next = kept.next;
     if next < input.len() {
-        let ended = end_line(
-            held, requesters, entries, memory, peers, interrupts, windows, segments, state, line,
-            out, at,
-        );
-        return moved_by(ended, next, input.len());
+        let ended = end_line(held, lent, line, out, at);
+        return moved_by(held, at, ended, next, input.len());
     }
     Moved {
         progress: held,

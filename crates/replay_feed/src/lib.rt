@@ -5,7 +5,8 @@ mod bytes;
 
 ghost use Rattle.std.specs.Prelude.{◌≡◌, ◌&&◌, eqb, leb};
 ghost use Rattle.replay_text.specs.Stream.{line_kept};
-ghost use Rattle.replay_session.specs.Standing.{buffers, standing};
+ghost use Rattle.replay_tables.specs.Whole.{Same};
+ghost use Rattle.replay_session.specs.Standing.{lent_buffers, standing};
 ghost use Rattle.replay_feed.specs.Feed.{end_bytes, end_of};
 ghost use Rattle.replay_feed.specs.Promise.{FedAs, Started};
 
@@ -13,22 +14,23 @@ use bytes::take_line;
 use kinds::record::Sizes;
 use replay_session::Progress;
 use replay_tables::Extent;
+use replay_tables::lent::Lent;
 
 // The bytes of a line that are kept: a longer line is bad, and so are its first bytes.
 pub(crate) const LINE_KEPT: usize = 128;
 
 // What became of a piece: so many bytes of it were taken, and the output ends at `at`. Fewer bytes than there are: the next one ends a line, and the
-// output, the count of output lines or the tables have no room for it. Unfit: no buffer of 128 bytes for the line, or more pending than it holds; nothing
-// was done.
-#[derive(Clone, Copy)]
-pub enum Fed {
-    To {
-        progress: Progress,
-        bytes: usize,
-        at: usize,
-    },
-    Unfit,
+// output, the count of output lines or the tables have no room for it.
+#[derive(Clone, Copy, Debug, PartialEq, Eq)]
+pub struct Fed {
+    pub progress: Progress,
+    pub bytes: usize,
+    pub at: usize,
 }
+
+// No buffer of 128 bytes for the line, or more pending than it holds; nothing was done.
+#[derive(Clone, Copy, Debug, PartialEq, Eq)]
+pub struct Unfit;
 
 // How many bytes of the line are kept, and the place of the input after them.
 #[derive(Clone, Copy)]
@@ -69,96 +71,62 @@ pub fn start() -> Progress
 fn fit(length: usize, pending: usize) -> bool
     ensures { result ≡ eqb length line_kept && leb pending line_kept }
 {
-    if length != LINE_KEPT {
-        return false;
-    }
-    pending <= LINE_KEPT
+    length == LINE_KEPT && pending <= LINE_KEPT
 }
 
 // A piece of the input: its bytes, up to the first line that cannot end.
 pub fn feed(
     progress: Progress,
-    requesters: &mut [u16],
-    entries: &mut [u64],
-    memory: &mut [u64],
-    peers: &mut [u64],
-    interrupts: &mut [u64],
-    windows: &mut [u64],
-    segments: &mut [u16],
-    state: &mut [u64],
+    lent: &mut Lent<'_>,
     line: &mut [u8],
     input: &[u8],
     out: &mut [u8],
     at: usize,
-) -> Fed
-    ensures { FedAs (standing progress (buffers requesters.old entries.old memory.old peers.old interrupts.old windows.old segments.old state.old line.old out.old) at) input.now result (buffers requesters.new entries.new memory.new peers.new interrupts.new windows.new segments.new state.new line.new out.new) }
+) -> Result<Fed, Unfit>
+    ensures fed { FedAs (standing progress (lent_buffers lent.old line.old out.old) at) input.now result (lent_buffers lent.new line.new out.new) }
+    ensures same { Same lent.old lent.new }
 {
-    if fit(line.len(), progress.pending) {
-        let mut p = progress;
-        let mut end = at;
-        let mut i = 0;
-        let mut limit = input.len();
-        while i < limit {
-            let moved = take_line(
-                p, requesters, entries, memory, peers, interrupts, windows, segments, state, line,
-                input, i, out, end,
-            );
-            p = moved.progress;
-            end = moved.at;
-            i = moved.next;
-            limit = moved.limit;
-        }
-        return Fed::To {
-            progress: p,
-            bytes: i,
-            at: end,
-        };
+    if !fit(line.len(), progress.pending) {
+        return Err(Unfit);
     }
-    Fed::Unfit
+    let mut p = progress;
+    let mut end = at;
+    let mut i = 0;
+    let mut limit = input.len();
+    // Kept: a turn takes the bytes of a whole line, and the last one may move the limit.
+    while i < limit {
+        let moved = take_line(p, lent, line, input, i, out, end);
+        p = moved.progress;
+        end = moved.at;
+        i = moved.next;
+        limit = moved.limit;
+    }
+    Ok(Fed {
+        progress: p,
+        bytes: i,
+        at: end,
+    })
 }
 
 // The end of the input: a missing line feed where bytes are pending.
 pub fn finish(
     progress: Progress,
-    requesters: &mut [u16],
-    entries: &mut [u64],
-    memory: &mut [u64],
-    peers: &mut [u64],
-    interrupts: &mut [u64],
-    windows: &mut [u64],
-    segments: &mut [u16],
-    state: &mut [u64],
+    lent: &mut Lent<'_>,
     line: &mut [u8],
     out: &mut [u8],
     at: usize,
-) -> Fed
-    ensures { FedAs (standing progress (buffers requesters.old entries.old memory.old peers.old interrupts.old windows.old segments.old state.old line.old out.old) at) (end_of (standing progress (buffers requesters.old entries.old memory.old peers.old interrupts.old windows.old segments.old state.old line.old out.old) at)) result (buffers requesters.new entries.new memory.new peers.new interrupts.new windows.new segments.new state.new line.new out.new) }
+) -> Result<Fed, Unfit>
+    ensures fed { FedAs (standing progress (lent_buffers lent.old line.old out.old) at) (end_of (standing progress (lent_buffers lent.old line.old out.old) at)) result (lent_buffers lent.new line.new out.new) }
+    ensures same { Same lent.old lent.new }
 {
     let missing = end_bytes(progress.pending);
     let end: &[u8] = b"\n";
-    feed(
-        progress,
-        requesters,
-        entries,
-        memory,
-        peers,
-        interrupts,
-        windows,
-        segments,
-        state,
-        line,
-        &end[..missing],
-        out,
-        at,
-    )
+    feed(progress, lent, line, &end[..missing], out, at)
 }
 
 // How many bytes the end of the input adds: a line feed where bytes are pending.
 fn end_bytes(pending: usize) -> usize
     ensures { result ≡ end_bytes pending }
 {
-    if pending == 0 {
-        return 0;
-    }
-    1
+    if pending == 0 { 0 } else { 1 }
 }

@@ -1,7 +1,7 @@
 -- Where a replay stands: all that it is lent and all that it counts.
 --     Progress            (of the code) the extent of the tables, the count of bytes kept of the line, the count of output lines
 --     Standing            the lent tables, the line's buffer and how much of it is pending, the count of output lines, the output and where it ends
---     Buffers, buffers    the lent lists alone; buffers_of s: those of s; progress_of s: what is carried by value
+--     Buffers, buffers    the lent lists alone; lent_buffers: as they are lent; buffers_of s: those of s; progress_of s: what is carried by value
 --     standing p b a      by progress, lent lists and the end of the output
 --     line_in s           what the pending bytes say as a line; reply_now s: what it answers; said_now s: the bytes of that
 --     last_count          the count of output lines that no line can follow: it has 64 bits
@@ -12,13 +12,13 @@
 use Rattle.std.specs.Prelude.{Bool, cond, ◌&&◌, List, ℕ, ◌+◌, eqb, ltb, leb, length, take}
 use Rattle.std.proofs.lemmas.List.Edits.{sets}
 use Rattle.replay_text.specs.Line.{line_of}
-use Rattle.replay_text.specs.declared.Line.{Line}
+use Rattle.replay_text.specs.Results.{Parsed, Reply}
 use Rattle.replay_text.specs.Text.{line_most}
 use Rattle.replay_session.specs.Promise.{reply_in}
 use Rattle.replay_text.specs.Replay.{text_of, count_after}
 use Rattle.replay_text.specs.Stream.{line_kept}
 use Rattle.replay_tables.specs.Lent.{Lent, lent, lengths_in, room_for, after_in}
-use Rattle.replay_text.specs.declared.Reply.{Reply}
+use Rattle.replay_tables.specs.declared.lent.Lent.{Lent as Lists}
 use Rattle.replay_session.specs.declared.Progress.{Progress}
 
 pub record Standing : Type 0 where
@@ -55,6 +55,20 @@ buffers q e m p n w g t b o = record {
   out = o;
 }
 
+abbrev pub lent_buffers : Lists → (line out : List ℕ) → Buffers
+lent_buffers l b o =
+    buffers
+    l.requesters.now
+    l.entries.now
+    l.memory.now
+    l.peers.now
+    l.interrupts.now
+    l.windows.now
+    l.segments.now
+    l.state.now
+    b
+    o
+
 abbrev pub buffers_of : Standing → Buffers
 buffers_of s =
     buffers
@@ -82,7 +96,7 @@ standing p b a = record {
   at = a;
 }
 
-abbrev pub line_in : Standing → Line
+abbrev pub line_in : Standing → Parsed
 line_in s = line_of (take s.pending s.line)
 
 abbrev pub reply_now : Standing → Reply

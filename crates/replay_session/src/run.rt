@@ -1,34 +1,48 @@
 // What a line does to the lent tables, and what it answers.
-ghost use Rattle.std.specs.Prelude.{◌≡◌, ◌*◌, take};
+ghost use Rattle.std.specs.Prelude.{◌≡◌, ◌*◌, take, Ok};
+ghost use Rattle.kinds.specs.Answer.{numbered};
+ghost use Rattle.profile.specs.Step.{answered, after};
 ghost use Rattle.tables.specs.Tables.{tables, live};
-ghost use Rattle.replay_tables.specs.Lent.{lent};
 ghost use Rattle.replay_text.specs.SessionTables.{replay_installed};
+ghost use Rattle.replay_text.specs.Results.{says};
+ghost use Rattle.replay_tables.specs.Lent.{lent};
+ghost use Rattle.replay_tables.specs.Whole.{whole, Same};
 ghost use Rattle.replay_session.specs.Promise.{RanLine, Requested, ServedParts};
 
 use handle;
-use kinds::answer;
+use kinds::answer::Numbers;
 use kinds::record::Sizes;
 use kinds::request::Request;
 use profile::limits::{ENTRY_WORDS, INTERRUPT_WORDS, PEER_WORDS, SEGMENT_COUNT, WINDOW_WORDS};
 use replay_tables;
+use replay_tables::lent::Lent;
 use replay_tables::{Extent, Replied};
 use replay_text;
-use replay_text::{INSTALLED, Line, Reply};
-use table_lists;
+use replay_text::{BadLine, INSTALLED, Line};
+use table_lists::{once, used};
+use tables::lent::{Live, Tables};
 
 // The part of a table that is in use: its first `count` times `each` words, or all where it has no more.
-fn part(table: &[u64], count: u64, each: u64) -> &[u64]
+fn part<T: Copy>(table: &[T], count: u64, each: u64) -> &[T]
     ensures { result.now ≡ take (count * each) table.now }
 {
-    let end = table_lists::used(count, each, table.len());
+    let end = used(count, each, table.len());
     &table[..end]
 }
 
-fn short_part(table: &[u16], count: u64, each: u64) -> &[u16]
-    ensures { result.now ≡ take (count * each) table.now }
+// A request, on tables of which only the parts in use are lent.
+fn serve_on(
+    tables: &Tables<'_>,
+    memory: &[u64],
+    state: &mut [u64],
+    interrupts: &mut [u64],
+    request: Request,
+) -> Numbers
+    ensures answers { result ≡ numbered (answered tables.now memory.now (live state.old interrupts.old) request) }
+    ensures leaves { live state.new interrupts.new ≡ after tables.now memory.now (live state.old interrupts.old) request }
 {
-    let end = table_lists::used(count, each, table.len());
-    &table[..end]
+    let mut lent = Live { state, interrupts };
+    Numbers::from(handle::handle(tables, memory, &mut lent, request))
 }
 
 // A request, where of all tables but interrupts and state only the part in use is lent.
@@ -38,119 +52,135 @@ fn serve_parts(
     entries: &[u64],
     memory: &[u64],
     peers: &[u64],
-    interrupts: &mut [u64],
     windows: &[u64],
     segments: &[u16],
     state: &mut [u64],
+    interrupts: &mut [u64],
     request: Request,
-) -> Reply
+) -> Numbers
     ensures { ServedParts (tables sizes replay_installed requesters.now entries.now peers.now windows.now segments.now) memory.now (live state.old interrupts.old) request result (live state.new interrupts.new) }
 {
-    let interrupt_end = table_lists::used(sizes.interrupts, INTERRUPT_WORDS, interrupts.len());
-    let state_end = replay_tables::state_used(sizes.pes, state.len());
-    let answer = handle::handle(
+    let tables = Tables {
         sizes,
-        INSTALLED,
+        installed: INSTALLED,
         requesters,
         entries,
-        memory,
         peers,
-        &mut interrupts[..interrupt_end],
         windows,
         segments,
+    };
+    let state_end = replay_tables::state_used(sizes.pes, state.len());
+    let interrupt_end = used(sizes.interrupts, INTERRUPT_WORDS, interrupts.len());
+    serve_on(
+        &tables,
+        memory,
         &mut state[..state_end],
-        request,
-    );
-    Reply::Says(answer::in_numbers(answer))
-}
-
-// A request, on the parts of the lent tables that are in use.
-fn serve_in(
-    extent: Extent,
-    requesters: &[u16],
-    entries: &[u64],
-    memory: &[u64],
-    peers: &[u64],
-    interrupts: &mut [u64],
-    windows: &[u64],
-    segments: &[u16],
-    state: &mut [u64],
-    request: Request,
-) -> Reply
-    ensures { Requested (lent extent requesters.now entries.now memory.now peers.now interrupts.old windows.now segments.now state.old) request result (lent extent requesters.now entries.now memory.now peers.now interrupts.new windows.now segments.now state.new) }
-{
-    let sizes = extent.sizes;
-    let there = table_lists::once(sizes.pes);
-    serve_parts(
-        sizes,
-        short_part(requesters, sizes.requesters, 1),
-        part(entries, sizes.pes, ENTRY_WORDS),
-        part(memory, extent.memory, 1),
-        part(peers, sizes.pes, PEER_WORDS),
-        interrupts,
-        part(windows, there, WINDOW_WORDS),
-        short_part(segments, there, SEGMENT_COUNT),
-        state,
+        &mut interrupts[..interrupt_end],
         request,
     )
 }
 
-// Any line, on any lent tables.
-pub fn run_line(
+// A request, on the parts of the lists that are in use.
+// Kept: lists and not a `Lent`, of which no two can be read side by side while it may be written.
+fn serve_lists(
     extent: Extent,
     requesters: &mut [u16],
     entries: &mut [u64],
     memory: &mut [u64],
     peers: &mut [u64],
-    interrupts: &mut [u64],
     windows: &mut [u64],
     segments: &mut [u16],
     state: &mut [u64],
-    line: Line,
-) -> Replied
-    ensures { RanLine (lent extent requesters.old entries.old memory.old peers.old interrupts.old windows.old segments.old state.old) line result.reply (lent result.extent requesters.new entries.new memory.new peers.new interrupts.new windows.new segments.new state.new) }
+    interrupts: &mut [u64],
+    request: Request,
+) -> Numbers
+    ensures { Requested (lent extent requesters.old entries.old memory.old peers.old interrupts.old windows.old segments.old state.old) request (says result) (lent extent requesters.new entries.new memory.new peers.new interrupts.new windows.new segments.new state.new) }
+{
+    let sizes = extent.sizes;
+    let there = once(sizes.pes);
+    serve_parts(
+        sizes,
+        part(requesters, sizes.requesters, 1),
+        part(entries, sizes.pes, ENTRY_WORDS),
+        part(memory, extent.memory, 1),
+        part(peers, sizes.pes, PEER_WORDS),
+        part(windows, there, WINDOW_WORDS),
+        part(segments, there, SEGMENT_COUNT),
+        state,
+        interrupts,
+        request,
+    )
+}
+
+// The same of the lent tables.
+fn serve_in(extent: Extent, lent: &mut Lent<'_>, request: Request) -> Numbers
+    ensures served { Requested (whole extent lent.old) request (says result) (whole extent lent.new) }
+    ensures same { Same lent.old lent.new }
+{
+    serve_lists(
+        extent,
+        lent.requesters,
+        lent.entries,
+        lent.memory,
+        lent.peers,
+        lent.windows,
+        lent.segments,
+        lent.state,
+        lent.interrupts,
+        request,
+    )
+}
+
+// A line that says something.
+fn run_good(extent: Extent, lent: &mut Lent<'_>, line: Line) -> Replied
+    ensures ran { RanLine (whole extent lent.old) (Ok line) result.reply (whole result.extent lent.new) }
+    ensures same { Same lent.old lent.new }
 {
     match line {
         Line::Size {
             pes,
-            interrupts: interrupt_count,
-            requesters: requester_count,
-            memory: memory_words,
+            interrupts,
+            requesters,
+            memory,
         } => {
-            let asked = Extent {
-                sizes: Sizes {
-                    pes,
-                    interrupts: interrupt_count,
-                    requesters: requester_count,
-                },
-                memory: memory_words,
+            let sizes = Sizes {
+                pes,
+                interrupts,
+                requesters,
             };
-            replay_tables::size_to(
-                extent, requesters, entries, memory, peers, interrupts, windows, segments, state,
-                asked,
-            )
+            replay_tables::size_to(extent, lent, Extent { sizes, memory })
         }
         Line::Set {
             table,
             index,
             value,
         } => {
-            let reply = replay_tables::set_in(
-                extent, requesters, entries, memory, peers, interrupts, windows, segments, state,
-                table, index, value,
-            );
-            Replied { extent, reply }
+            let numbers = replay_tables::set_in(extent, lent, table, index, value);
+            Replied {
+                extent,
+                reply: Ok(numbers),
+            }
         }
         Line::Request(request) => {
-            let reply = serve_in(
-                extent, requesters, entries, memory, peers, interrupts, windows, segments, state,
-                request,
-            );
-            Replied { extent, reply }
+            let numbers = serve_in(extent, lent, request);
+            Replied {
+                extent,
+                reply: Ok(Some(numbers)),
+            }
         }
-        Line::Bad => Replied {
+    }
+}
+
+// Any line, on any lent tables.
+pub fn run_line(extent: Extent, lent: &mut Lent<'_>, line: Result<Line, BadLine>) -> Replied
+    ensures ran { RanLine (whole extent lent.old) line result.reply (whole result.extent lent.new) }
+    ensures same { Same lent.old lent.new }
+{
+    match line {
+        Ok(line) => run_good(extent, lent, line),
+        Err(BadLine) => Replied {
             extent,
-            reply: Reply::Says(replay_text::bad()),
+            reply: Ok(Some(replay_text::bad())),
         },
     }
 }

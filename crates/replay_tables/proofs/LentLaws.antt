@@ -5,15 +5,15 @@
 --     served_in_use       what a request leaves in the session is what it leaves of the words in use
 --     after-lengths       no line changes the length of a list
 -- Assumes nothing.
-use Rattle.std.specs.Prelude.{◌≡◌, refl, Bool, true, false, cond, ◌&&◌, List, ◌∷◌, ℕ, zero, suc, ◌*◌, ◌≤◌, leb, ltb, length, take, drop, set, replicate}
+use Rattle.std.specs.Prelude.{◌≡◌, refl, Bool, true, false, cond, ◌&&◌, List, ◌∷◌, ℕ, zero, suc, ◌*◌, ◌≤◌, leb, ltb, length, take, drop, set, replicate, Ok, Err}
 use Rattle.std.proofs.Common.{sym, ap, append-nil, one-mul, arith, length-set, length-take, drop_of_length-le, take_all, take_at, length-take-le}
 use Rattle.std.proofs.lemmas.List.{length-replicate}
 use Rattle.std.proofs.Math.Seq.{length_front, take-set-lt}
 use borrow.Author.Tests.{leb-true, leb-false, ltb-true, ne_eqb}
 use Rattle.kinds.proofs.Tests.{and_left, and_right, all_true, by_cases}
 use Rattle.kinds.specs.declared.request.Request.{Request}
-use Rattle.replay_text.specs.declared.Line.{Line}
-use Rattle.replay_text.specs.declared.Line.TheVariants.{Size, Set, Bad, Request as RequestLine}
+use Rattle.replay_text.specs.Results.{Parsed}
+use Rattle.replay_text.specs.declared.Line.TheVariants.{Size, Set, Request as RequestLine}
 use Rattle.replay_text.specs.declared.Table.{Table}
 use Rattle.replay_text.specs.declared.Table.TheVariants.{Requesters, Entries, Memory, Peers, Interrupts, Windows, Segments, State}
 use Rattle.profile.proofs.EventLaws as events
@@ -139,9 +139,9 @@ either : (o : Bool) (c b : Lent) → lengths_in c ≡ lengths_in b → lengths_i
 either true c b h = h
 either false c b h = refl
 
-pub after-lengths : (b : Lent) (l : Line) → lengths_in (after_in b l) ≡ lengths_in b
+pub after-lengths : (b : Lent) (l : Parsed) → lengths_in (after_in b l) ≡ lengths_in b
 unfolding after_in
-after-lengths b (Size n m r w) = either (room_for (Size n m r w) (lengths_in b)) (cleared_to (extent_of n m r w) b) b (cleared-lengths (extent_of n m r w) b)
-after-lengths b (Set t i v) = either (settable (in_use b) t i v) (with_list b t (set (list_of b t) i v)) b (list-lengths b t i v)
-after-lengths b (RequestLine q) = served-lengths b q
-after-lengths b Bad = refl
+after-lengths b (Ok (Size n m r w)) = either (room_for (Ok (Size n m r w)) (lengths_in b)) (cleared_to (extent_of n m r w) b) b (cleared-lengths (extent_of n m r w) b)
+after-lengths b (Ok (Set t i v)) = either (settable (in_use b) t i v) (with_list b t (set (list_of b t) i v)) b (list-lengths b t i v)
+after-lengths b (Ok (RequestLine q)) = served-lengths b q
+after-lengths b (Err e) = refl

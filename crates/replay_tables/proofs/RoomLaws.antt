@@ -9,7 +9,7 @@ use Rattle.kinds.specs.declared.record.Lengths.{Lengths}
 use Rattle.replay_tables.specs.Lent.{room_for}
 use Rattle.replay_text.proofs.EveryLine.{within, every_line}
 use Rattle.replay_text.specs.Line.{most_pes, most_interrupts, most_requesters, most_memory, sized, line_of}
-use Rattle.replay_text.specs.declared.Line.{Line}
+use Rattle.replay_text.specs.Results.{Parsed}
 use Rattle.profile.specs.Tables.{entry_words, peer_words, interrupt_words, window_words, segment_count, state_length}
 
 abbrev pub largest : Lengths
@@ -24,7 +24,7 @@ largest = record {
   state = state_length most_pes;
 }
 
-abbrev Roomy : Line → Type 0
+abbrev Roomy : Parsed → Type 0
 Roomy l = room_for l largest ≡ true
 
 size_room : (n m r w : ℕ) → Roomy (sized n m r w)

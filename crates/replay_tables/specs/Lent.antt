@@ -14,12 +14,12 @@
 --     served_in q b       after request q: state and interrupts as the bridge leaves the words in use, and all other words as they were
 --     after_in b l        THE LENT TABLES AFTER LINE l
 -- Assumes nothing.
-use Rattle.std.specs.Prelude.{Bool, true, cond, ◌&&◌, List, [], ◌∷◌, ◌++◌, ℕ, ◌*◌, leb, length, take, drop, set, replicate}
+use Rattle.std.specs.Prelude.{Bool, true, cond, ◌&&◌, List, [], ◌∷◌, ◌++◌, ℕ, ◌*◌, leb, length, take, drop, set, replicate, Ok, Err}
 use Rattle.kinds.specs.Tests.{all}
 use Rattle.kinds.specs.declared.record.Lengths.{Lengths}
 use Rattle.kinds.specs.declared.request.Request.{Request}
-use Rattle.replay_text.specs.declared.Line.{Line}
-use Rattle.replay_text.specs.declared.Line.TheVariants.{Size, Set, Bad, Request as RequestLine}
+use Rattle.replay_text.specs.Results.{Parsed}
+use Rattle.replay_text.specs.declared.Line.TheVariants.{Size, Set, Request as RequestLine}
 use Rattle.replay_text.specs.declared.Table.{Table}
 use Rattle.replay_text.specs.declared.Table.TheVariants.{Requesters, Entries, Memory, Peers, Interrupts, Windows, Segments, State}
 use Rattle.profile.specs.Step.{after}
@@ -126,11 +126,11 @@ pe_room n k = all (pe_rooms n k)
 abbrev pub other_room : (m r w : ℕ) → Lengths → Bool
 other_room m r w k = all (other_rooms m r w k)
 
-unfoldable pub room_for : Line → Lengths → Bool
-room_for (Size n m r w) k = leb 1 n && pe_room n k && other_room m r w k
-room_for (Set t i v) k = true
-room_for (RequestLine q) k = true
-room_for Bad k = true
+unfoldable pub room_for : Parsed → Lengths → Bool
+room_for (Ok (Size n m r w)) k = leb 1 n && pe_room n k && other_room m r w k
+room_for (Ok (Set t i v)) k = true
+room_for (Ok (RequestLine q)) k = true
+room_for (Err e) k = true
 
 abbrev pub cleared : List ℕ → List ℕ
 cleared l = replicate (length l) 0
@@ -149,8 +149,8 @@ cleared_to x b =
     (cleared b.state)
 
 -- the size line that asks for an extent
-abbrev pub size_line : Extent → Line
-size_line x = Size x.sizes.pes x.sizes.interrupts x.sizes.requesters x.memory
+abbrev pub size_line : Extent → Parsed
+size_line x = Ok (Size x.sizes.pes x.sizes.interrupts x.sizes.requesters x.memory)
 
 abbrev pub sized_to : Extent → Lent → Lent
 sized_to x b = cond (room_for (size_line x) (lengths_in b)) (cleared_to x b) b
@@ -188,8 +188,8 @@ written b s =
 abbrev pub served_in : Request → Lent → Lent
 served_in q b = written b (after (in_use b).tables (in_use b).memory (in_use b).live q)
 
-unfoldable pub after_in : Lent → Line → Lent
-after_in b (Size n m r w) = sized_to (extent_of n m r w) b
-after_in b (Set t i v) = set_in t i v b
-after_in b (RequestLine q) = served_in q b
-after_in b Bad = b
+unfoldable pub after_in : Lent → Parsed → Lent
+after_in b (Ok (Size n m r w)) = sized_to (extent_of n m r w) b
+after_in b (Ok (Set t i v)) = set_in t i v b
+after_in b (Ok (RequestLine q)) = served_in q b
+after_in b (Err e) = b

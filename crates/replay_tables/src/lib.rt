@@ -1,25 +1,28 @@
 // The lent tables of a replay: the words in use, one of them set, all cleared for new sizes. Defined in crates/replay_tables/specs/Lent.antt.
 #![tactic(auto)]
 
+pub mod lent;
 mod size;
 mod table;
 
-ghost use Rattle.std.specs.Prelude.{◌≡◌, min};
-ghost use Rattle.replay_tables.specs.Lent.{state_used, lent};
+ghost use Rattle.std.specs.Prelude.{◌≡◌, min, Ok};
+ghost use Rattle.replay_tables.specs.Lent.{state_used};
 ghost use Rattle.replay_tables.specs.Promise.{DidSet, SizedTo};
+ghost use Rattle.replay_tables.specs.Whole.{whole, Same};
 
+use kinds::answer::Numbers;
 use kinds::record::Sizes;
+use lent::Lent;
 use profile::limits::{
     ENTRY_WORDS, FENCE_WORDS, INTERRUPT_WORDS, PEER_WORDS, SEGMENT_COUNT, STATE_WORDS, WINDOW_WORDS,
 };
-use replay_text::{Reply, Table};
+use replay_text::{NoRoom, Reply, Table};
 use size::{clear_all, room_for};
-use table::{set_short, set_state, set_word};
+use table::{set_state, set_word, short};
 use table_lists::{once, used};
-use tables::sizes;
 
 // What the last good size line asked for; zeros before the first one.
-#[derive(Clone, Copy)]
+#[derive(Clone, Copy, Debug, PartialEq, Eq)]
 pub struct Extent {
     pub sizes: Sizes,
     pub memory: u64,
@@ -41,78 +44,58 @@ pub fn state_used(pes: u64, length: usize) -> usize
     }
     let fence = used(pes, STATE_WORDS, length);
     if fence < length {
-        return fence + FENCE_WORDS as usize;
+        fence + FENCE_WORDS as usize
+    } else {
+        fence
     }
-    fence
 }
 
 // A set line: a word of a table set where it is in use, or the answer to a bad line.
 pub fn set_in(
     extent: Extent,
-    requesters: &mut [u16],
-    entries: &mut [u64],
-    memory: &mut [u64],
-    peers: &mut [u64],
-    interrupts: &mut [u64],
-    windows: &mut [u64],
-    segments: &mut [u16],
-    state: &mut [u64],
+    lent: &mut Lent<'_>,
     table: Table,
     index: u64,
     value: u64,
-) -> Reply
-    ensures { DidSet (lent extent requesters.old entries.old memory.old peers.old interrupts.old windows.old segments.old state.old) table index value result (lent extent requesters.new entries.new memory.new peers.new interrupts.new windows.new segments.new state.new) }
+) -> Option<Numbers>
+    ensures set { DidSet (whole extent lent.old) table index value (Ok result) (whole extent lent.new) }
+    ensures same { Same lent.old lent.new }
 {
     let sizes = extent.sizes;
     let there = once(sizes.pes);
     match table {
-        Table::Requesters => set_short(requesters, sizes.requesters, 1, index, value),
-        Table::Entries => set_word(entries, sizes.pes, ENTRY_WORDS, index, value),
-        Table::Memory => set_word(memory, extent.memory, 1, index, value),
-        Table::Peers => set_word(peers, sizes.pes, PEER_WORDS, index, value),
-        Table::Interrupts => set_word(interrupts, sizes.interrupts, INTERRUPT_WORDS, index, value),
-        Table::Windows => set_word(windows, there, WINDOW_WORDS, index, value),
-        Table::Segments => set_short(segments, there, SEGMENT_COUNT, index, value),
-        Table::State => set_state(state, sizes.pes, index, value),
+        Table::Requesters => set_word(lent.requesters, sizes.requesters, 1, index, short(value)),
+        Table::Entries => set_word(lent.entries, sizes.pes, ENTRY_WORDS, index, Some(value)),
+        Table::Memory => set_word(lent.memory, extent.memory, 1, index, Some(value)),
+        Table::Peers => set_word(lent.peers, sizes.pes, PEER_WORDS, index, Some(value)),
+        Table::Interrupts => set_word(
+            lent.interrupts,
+            sizes.interrupts,
+            INTERRUPT_WORDS,
+            index,
+            Some(value),
+        ),
+        Table::Windows => set_word(lent.windows, there, WINDOW_WORDS, index, Some(value)),
+        Table::Segments => set_word(lent.segments, there, SEGMENT_COUNT, index, short(value)),
+        Table::State => set_state(lent.state, sizes.pes, index, value),
     }
 }
 
 // A size line: all words of all lists 0; where there is no room for its tables, nothing is done.
-pub fn size_to(
-    extent: Extent,
-    requesters: &mut [u16],
-    entries: &mut [u64],
-    memory: &mut [u64],
-    peers: &mut [u64],
-    interrupts: &mut [u64],
-    windows: &mut [u64],
-    segments: &mut [u16],
-    state: &mut [u64],
-    asked: Extent,
-) -> Replied
-    ensures { SizedTo (lent extent requesters.old entries.old memory.old peers.old interrupts.old windows.old segments.old state.old) asked result.reply (lent result.extent requesters.new entries.new memory.new peers.new interrupts.new windows.new segments.new state.new) }
+pub fn size_to(extent: Extent, lent: &mut Lent<'_>, asked: Extent) -> Replied
+    ensures sized { SizedTo (whole extent lent.old) asked result.reply (whole result.extent lent.new) }
+    ensures same { Same lent.old lent.new }
 {
-    let lengths = sizes::lengths_of(
-        requesters, entries, memory, peers, interrupts, windows, segments, state,
-    );
-    let sizes = asked.sizes;
-    if room_for(
-        sizes.pes,
-        sizes.interrupts,
-        sizes.requesters,
-        asked.memory,
-        lengths,
-    ) {
-        clear_all(
-            requesters, entries, memory, peers, interrupts, windows, segments, state,
-        );
-        return Replied {
+    if room_for(asked, lent.lengths()) {
+        clear_all(lent);
+        Replied {
             extent: asked,
-            reply: Reply::Silent,
-        };
-    }
-    Replied {
-        extent,
-        reply: Reply::NoRoom,
+            reply: Ok(None),
+        }
+    } else {
+        Replied {
+            extent,
+            reply: Err(NoRoom),
+        }
     }
 }

@@ -1,50 +1,52 @@
 // One lent table: a word of the part in use set.
-ghost use Rattle.std.specs.Prelude.{◌≡◌, true, ◌*◌, ◌^◌, ltb};
+ghost use Rattle.std.specs.Prelude.{◌≡◌, ◌*◌, ◌^◌, ◌≤◌, cond, ltb, min, length, Some, None, Ok};
 ghost use Rattle.replay_tables.specs.Lent.{state_used};
 ghost use Rattle.replay_tables.specs.Promise.{SetPart};
 
 use crate::state_used;
-use replay_text::{Reply, bad};
+use kinds::answer::Numbers;
+use replay_text::bad;
 use table_lists::used;
 
-// A word of 16 bits is below it.
-const SHORT_LIMIT: u64 = 65536;
+// A word of 16 bits, where the value is not too wide for one.
+pub(crate) fn short(value: u64) -> Option<u16>
+    ensures { result ≡ cond (ltb value (2 ^ 16)) (Some value) None }
+{
+    u16::try_from(value).ok()
+}
 
-// Sets word `index` of the part in use, the first `count` times `each` words; a word that is not there is a bad line, and nothing is written.
-pub(crate) fn set_word(table: &mut [u64], count: u64, each: u64, index: u64, value: u64) -> Reply
-    ensures { SetPart (count * each) table.old index value true result table.new }
+// Sets word `index` of the part in use, the first `count` times `each` words; a word that is not there, and no value, is a bad line, and nothing is written.
+pub(crate) fn set_word<T: Copy>(
+    table: &mut [T],
+    count: u64,
+    each: u64,
+    index: u64,
+    value: Option<T>,
+) -> Option<Numbers>
+    ensures { SetPart (min (count * each) (length table.old)) table.old index value (Ok result) table.new }
 {
     let end = used(count, each, table.len());
-    if index < end as u64 {
-        table[index as usize] = value;
-        return Reply::Silent;
-    }
-    Reply::Says(bad())
+    set_first(table, end, index, value)
 }
 
 // The same of the state.
-pub(crate) fn set_state(state: &mut [u64], pes: u64, index: u64, value: u64) -> Reply
-    ensures { SetPart (state_used pes) state.old index value true result state.new }
+pub(crate) fn set_state(state: &mut [u64], pes: u64, index: u64, value: u64) -> Option<Numbers>
+    ensures { SetPart (min (state_used pes) (length state.old)) state.old index (Some value) (Ok result) state.new }
 {
     let end = state_used(pes, state.len());
-    if index < end as u64 {
-        state[index as usize] = value;
-        return Reply::Silent;
-    }
-    Reply::Says(bad())
+    set_first(state, end, index, Some(value))
 }
 
-// The same of a table of 16 bits a word: a wider value is a bad line too.
-pub(crate) fn set_short(table: &mut [u16], count: u64, each: u64, index: u64, value: u64) -> Reply
-    ensures { SetPart (count * each) table.old index value (ltb value (2 ^ 16)) result table.new }
+// The same of the first `end` words.
+fn set_first<T: Copy>(table: &mut [T], end: usize, index: u64, value: Option<T>) -> Option<Numbers>
+    requires { end ≤ length table.old }
+    ensures { SetPart end table.old index value (Ok result) table.new }
 {
-    let end = used(count, each, table.len());
-    if index < end as u64 {
-        if value < SHORT_LIMIT {
-            table[index as usize] = value as u16;
-            return Reply::Silent;
+    match value {
+        Some(value) if index < end as u64 => {
+            table[index as usize] = value;
+            None
         }
-        return Reply::Says(bad());
+        _ => Some(bad()),
     }
-    Reply::Says(bad())
 }

@@ -3,9 +3,9 @@
 --     sized-cases         a size line says the sizes, or is bad
 -- A new kind of line adds a form to forms_hold.
 -- Assumes nothing.
-use Rattle.std.specs.Prelude.{◌≡◌, refl, Bool, ◌&&◌, ℕ, ◌^◌, ltb, leb}
+use Rattle.std.specs.Prelude.{◌≡◌, refl, Bool, ◌&&◌, ℕ, ◌^◌, ltb, leb, Option, Some, None, Ok}
 use mathlib.Core.List.{List, [], ◌∷◌}
-use Rattle.std.proofs.Math.Option.{Option, none, some}
+use Rattle.std.proofs.Math.Option.{none}
 use Prim.Native.String.{String}
 use Rattle.kinds.proofs.Tests.{by_cases}
 use Rattle.kinds.specs.declared.request.Request.{Request}
@@ -14,39 +14,39 @@ use Rattle.replay_text.specs.Bytes.{bytes}
 use Rattle.replay_text.specs.Field.{fields_of, number_of, only, is}
 use Rattle.replay_text.specs.Line.{Form, given, field, final, numbers, most_pes, most_interrupts, most_requesters, most_memory, sized, dma, formed, forms, tables, directions, parts, size_line, set_line, dma_line, clear_line, line_of}
 use Rattle.replay_text.specs.Word.{find}
-use Rattle.replay_text.specs.declared.Line.{Line}
-use Rattle.replay_text.specs.declared.Line.TheVariants.{Size, Set, Request as RequestLine, Bad}
+use Rattle.replay_text.specs.Results.{Parsed, bad as bad_line}
+use Rattle.replay_text.specs.declared.Line.TheVariants.{Size, Set, Request as RequestLine}
 use Rattle.replay_text.specs.declared.Table.{Table}
 
 -- a size line within its limits
 abbrev pub within : (n m r w : ℕ) → Bool
 within n m r w = leb 1 n && leb n most_pes && leb m most_interrupts && leb 1 r && leb r most_requesters && leb w most_memory
 
-pub sized-cases : (P : Line → Type 0) (n m r w : ℕ) → P (Size n m r w) → P Bad → P (sized n m r w)
+pub sized-cases : (P : Parsed → Type 0) (n m r w : ℕ) → P (Ok (Size n m r w)) → P bad_line → P (sized n m r w)
 unfolding sized
 sized-cases P n m r w s b = by_cases (within n m r w) (λ o. rw o s) (λ o. rw o b)
 
 -- what holds of each kind of line
-module _ (P : Line → Type 0) (bad : P Bad) (sizes : (n m r w : ℕ) → P (sized n m r w)) (sets : (t : Table) (i v : ℕ) → P (Set t i v))
-    (requests : (q : Request) → kind q ≡ none → P (RequestLine q)) where
+module _ (P : Parsed → Type 0) (bad : P bad_line) (sizes : (n m r w : ℕ) → P (sized n m r w)) (sets : (t : Table) (i v : ℕ) → P (Ok (Set t i v)))
+    (requests : (q : Request) → kind q ≡ none → P (Ok (RequestLine q))) where
   -- a form, whatever its fields are
   abbrev Holds : Form → Type 0
   Holds form = (fs : List (List ℕ)) → P (form fs)
 
-  given_holds : {A : Type 0} (o : Option A) (k : A → Line) → ((a : A) → P (k a)) → P (given o k)
-  given_holds none k h = bad
-  given_holds (some a) k h = h a
+  given_holds : {A : Type 0} (o : Option A) (k : A → Parsed) → ((a : A) → P (k a)) → P (given o k)
+  given_holds None k h = bad
+  given_holds (Some a) k h = h a
 
   field-holds : {A : Type 0} (read : List ℕ → Option A) (k : A → Form) → ((a : A) → Holds (k a)) → Holds (field read k)
   unfolding field
   field-holds read k h [] = bad
   field-holds read k h (f ∷ fs) = given_holds (read f) (λ a. k a fs) (λ a. h a fs)
 
-  final-holds : {A : Type 0} (read : List ℕ → Option A) (k : A → Line) → ((a : A) → P (k a)) → Holds (final read k)
+  final-holds : {A : Type 0} (read : List ℕ → Option A) (k : A → Parsed) → ((a : A) → P (k a)) → Holds (final read k)
   unfolding final
   final-holds read k h fs = given_holds (only read fs) k h
 
-  numbers_hold : (k : ℕ → ℕ → Line) → ((a b : ℕ) → P (k a b)) → Holds (numbers k)
+  numbers_hold : (k : ℕ → ℕ → Parsed) → ((a b : ℕ) → P (k a b)) → Holds (numbers k)
   unfolding numbers
   numbers_hold k h = field-holds number_of _ (λ a. final-holds number_of (k a) (h a))
 

@@ -3,9 +3,8 @@
 --     number_long         a field of more than 16 bytes is no number
 --     total_fields        the bytes of a line are those of its fields, each with the byte that ends it
 -- Assumes nothing.
-use Rattle.std.specs.Prelude.{◌≡◌, refl, true, false, List, [], ◌∷◌, ℕ, ◌+◌, ◌<◌, eqb, length}
+use Rattle.std.specs.Prelude.{◌≡◌, refl, true, false, List, [], ◌∷◌, ℕ, ◌+◌, ◌<◌, eqb, length, None}
 use Rattle.std.proofs.Common.{ap, arith, le-leb, eqb-true}
-use Rattle.std.proofs.Math.Option.{none}
 use Rattle.std.proofs.lemmas.Bool.{lt-leb}
 use Rattle.kinds.proofs.Tests.{by_cases, clash}
 use Rattle.replay_text.specs.Bytes.{tab}
@@ -24,7 +23,7 @@ is_same (a ∷ l) (b ∷ k) e =
 pub is-other : (f w : List ℕ) → (length f ≡ length w → ⊥) → is f w ≡ false
 is-other f w h = by_cases (is f w) (λ o. absurd (h (ap length (is_same f w o)))) (λ o. o)
 
-pub number_long : (f : List ℕ) → 16 < length f → number_of f ≡ none
+pub number_long : (f : List ℕ) → 16 < length f → number_of f ≡ None
 unfolding number_of
 number_long f h = rw (le-leb 1 (length f) (omega arith), lt-leb (length f) 16 h)
 

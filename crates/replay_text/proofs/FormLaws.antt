@@ -5,13 +5,12 @@ use Rattle.std.specs.Prelude.{◌≡◌, refl, Bool, true, false, List, [], ◌�
 use Prim.Native.String.{String}
 use Rattle.replay_text.specs.Bytes.{bytes}
 use Rattle.replay_text.specs.Field.{is}
-use Rattle.replay_text.specs.declared.Line.{Line}
-use Rattle.replay_text.specs.declared.Line.TheVariants.{Bad}
+use Rattle.replay_text.specs.Results.{Parsed, bad}
 use Rattle.replay_text.specs.Line.{Form, formed}
 use Rattle.replay_text.specs.Word.{find}
 
 -- a line's first field, looked for in a list of forms
-module _ (f : List ℕ) (w : String) (form : Form) (fs : List (String × Form)) (rest : List (List ℕ)) {b : Bool} {y : Line} (asked : b ≡ is f (bytes w)) where
+module _ (f : List ℕ) (w : String) (form : Form) (fs : List (String × Form)) (rest : List (List ℕ)) {b : Bool} {y : Parsed} (asked : b ≡ is f (bytes w)) where
   pub form_then : b ≡ true → y ≡ form rest → y ≡ formed ((w, form) ∷ fs) f rest
   unfolding formed find
   form_then e h = rw (← asked, e) h
@@ -20,7 +19,7 @@ module _ (f : List ℕ) (w : String) (form : Form) (fs : List (String × Form)) 
   unfolding formed find
   form_else e h = rw (← asked, e) h
 
-pub form_none : (f : List ℕ) (rest : List (List ℕ)) → Bad ≡ formed [] f rest
+pub form_none : (f : List ℕ) (rest : List (List ℕ)) → bad ≡ formed [] f rest
 unfolding formed find
 form_none f rest = refl
 

@@ -1,7 +1,7 @@
 -- Theorems of specs/SessionIsolation.antt.
 --     session-isolation   THE THEOREM
 -- Assumes nothing.
-use Rattle.std.specs.Prelude.{◌≡◌, Bool, true, ℕ}
+use Rattle.std.specs.Prelude.{◌≡◌, Bool, true, ℕ, Ok, Err}
 use Rattle.std.proofs.Math.Path.{refl}
 use Rattle.std.proofs.Common.{sym, ap, ◌∙◌}
 use mathlib.Core.List.{List, [], ◌∷◌, map}
@@ -10,8 +10,8 @@ use Rattle.kinds.specs.declared.number.PeNumber.{PeNumber}
 use Rattle.isolation.specs.Isolation.{machine}
 use Rattle.isolation.proofs.Isolation.{isolation}
 use Rattle.isolation.specs.Machine.{seen, end}
-use Rattle.replay_text.specs.declared.Line.{Line}
-use Rattle.replay_text.specs.declared.Line.TheVariants.{Size, Set, Request as RequestLine, Bad}
+use Rattle.replay_text.specs.Results.{Parsed}
+use Rattle.replay_text.specs.declared.Line.TheVariants.{Size, Set, Request as RequestLine}
 use Rattle.profile.specs.Agree.{belongs}
 use Rattle.profile.specs.Step.{after}
 use Rattle.profile.specs.Tables.{Tables, Live}
@@ -23,23 +23,23 @@ module _ (G : PeNumber → Bool) (f : Tables) (m : List ℕ) where
   abbrev having : Live → Session
   having v = record { tables = f; memory = m; live = v }
 
-  own-replies : (v : Live) (l : List Line) → requests_only l ≡ true → own_replies G (having v) l ≡ map saying (seen (machine G f m) v (requests_in l))
+  own-replies : (v : Live) (l : List Parsed) → requests_only l ≡ true → own_replies G (having v) l ≡ map saying (seen (machine G f m) v (requests_in l))
   unfolding requests_only requests_in own_replies reply_to after_line
   own-replies v [] h = refl
-  own-replies v (Size n w r x ∷ l) h = clash h refl
-  own-replies v (Set t i x ∷ l) h = clash h refl
-  own-replies v (RequestLine q ∷ l) h =
+  own-replies v (Ok (Size n w r x) ∷ l) h = clash h refl
+  own-replies v (Ok (Set t i x) ∷ l) h = clash h refl
+  own-replies v (Ok (RequestLine q) ∷ l) h =
       let rest = own-replies (after f m v q) l h in
       by_cases (belongs G f v q) (λ o. rw (o, rest)) (λ o. rw (o, rest))
-  own-replies v (Bad ∷ l) h = own-replies v l h
+  own-replies v (Err e ∷ l) h = own-replies v l h
 
-  lines_left_lem : (v : Live) (l : List Line) → requests_only l ≡ true → lines_left (having v) l ≡ having (end (after f m) v (requests_in l))
+  lines_left_lem : (v : Live) (l : List Parsed) → requests_only l ≡ true → lines_left (having v) l ≡ having (end (after f m) v (requests_in l))
   unfolding requests_only requests_in lines_left after_line
   lines_left_lem v [] h = refl
-  lines_left_lem v (Size n w r x ∷ l) h = clash h refl
-  lines_left_lem v (Set t i x ∷ l) h = clash h refl
-  lines_left_lem v (RequestLine q ∷ l) h = lines_left_lem (after f m v q) l h
-  lines_left_lem v (Bad ∷ l) h = lines_left_lem v l h
+  lines_left_lem v (Ok (Size n w r x) ∷ l) h = clash h refl
+  lines_left_lem v (Ok (Set t i x) ∷ l) h = clash h refl
+  lines_left_lem v (Ok (RequestLine q) ∷ l) h = lines_left_lem (after f m v q) l h
+  lines_left_lem v (Err e ∷ l) h = lines_left_lem v l h
 
 pub session-isolation : SessionIsolation
 session-isolation = record {

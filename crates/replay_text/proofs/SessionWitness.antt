@@ -5,7 +5,7 @@
 --     group-replies       what the group's own lines answer, in numbers: not refusals alone
 --     witness             THE CLAIM at the two bridges of `isolation/Bridges`, which differ in all that the group does not see
 -- Assumes nothing.
-use Rattle.std.specs.Prelude.{◌≡◌, refl, true, List, [], ◌∷◌, ◌++◌, map}
+use Rattle.std.specs.Prelude.{◌≡◌, refl, true, List, [], ◌∷◌, ◌++◌, map, Ok}
 use Rattle.kinds.specs.Answer.{numbered, refuse}
 use Rattle.kinds.specs.Words.{at}
 use Rattle.kinds.specs.declared.answer.Answer.TheVariants.{Msi, Ones, Refuse, Done}
@@ -15,9 +15,8 @@ use Rattle.isolation.proofs.Bridges.{group, tables, words, first, second, list, 
 use Rattle.isolation.specs.Isolation.{places_in}
 use Rattle.isolation.specs.View.{Bridge, Written}
 use Rattle.isolation.proofs.Witness.{closed, view, pass}
-use Rattle.replay_text.specs.declared.Line.{Line}
-use Rattle.replay_text.specs.declared.Line.TheVariants.{Request, Bad}
-use Rattle.replay_text.specs.declared.Reply.TheVariants.{Says}
+use Rattle.replay_text.specs.Results.{Parsed, bad, says}
+use Rattle.replay_text.specs.declared.Line.TheVariants.{Request}
 use Rattle.replay_text.specs.Session.{reply_to, after_line}
 use Rattle.replay_text.specs.SessionIsolation.{requests_only, requests_in, own_replies, lines_left}
 use Rattle.replay_text.proofs.SessionIsolation.{session-isolation}
@@ -26,11 +25,11 @@ use Rattle.replay_text.specs.SessionTables.{Session}
 abbrev holding : Bridge → Session
 holding a = record { tables = a.tables; memory = a.memory; live = a.live }
 
-abbrev lines : List Line
-lines = Bad ∷ map Request list ++ (Bad ∷ [])
+abbrev lines : List Parsed
+lines = bad ∷ map (λ q. Ok (Request q)) list ++ (bad ∷ [])
 
-abbrev others : List Line
-others = map Request other
+abbrev others : List Parsed
+others = map (λ q. Ok (Request q)) other
 
 lines-only : requests_only lines ≡ true
 unfolding list requests_only
@@ -45,7 +44,7 @@ unfolding opened_bridges requests_in
 same-places = refl
 
 group-replies : own_replies group (holding first) lines ≡
-    map (λ a. Says (numbered a))
+    map (λ a. says (numbered a))
     (pass 0x9010 2 2 ∷ pass 0x1000000 1 0 ∷ Msi 1 5 6 ∷ refuse AboveInstalled ∷ refuse BadRequest ∷ Refuse TableWord 1 (record { 0 = 0x20 }) ∷ Ones MmioStopped 0xFFFFFFFF ∷ Done
     ∷ Done ∷ [])
 unfolding opened_bridges pass own_replies reply_to after_line

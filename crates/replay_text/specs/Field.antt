@@ -5,8 +5,7 @@
 --     only read fs        what the one field that is left holds; none where none or more are left
 --     is a b              the bytes a and b are the same
 -- Assumes nothing.
-use Rattle.std.specs.Prelude.{Bool, true, false, cond, ◌&&◌, List, [], ◌∷◌, ℕ, ◌+◌, ◌-◌, ◌*◌, ltb, leb, eqb, length}
-use Rattle.std.proofs.Math.Option.{Option, none, some}
+use Rattle.std.specs.Prelude.{Bool, true, false, cond, ◌&&◌, List, [], ◌∷◌, ℕ, ◌+◌, ◌-◌, ◌*◌, ltb, leb, eqb, length, Option, None, Some}
 use Rattle.replay_text.specs.Bytes.{tab}
 
 -- a byte at the front of the first field
@@ -23,16 +22,16 @@ digit_of b = cond (ltb b 48) 16 (cond (ltb b 58) (b - 48) (cond (ltb b 97) 16 (c
 
 -- the number that digits give after those that gave v
 unfoldable pub number_from : (v : ℕ) → List ℕ → Option ℕ
-number_from v [] = some v
-number_from v (b ∷ f) = cond (ltb (digit_of b) 16) (number_from (v * 16 + digit_of b) f) none
+number_from v [] = Some v
+number_from v (b ∷ f) = cond (ltb (digit_of b) 16) (number_from (v * 16 + digit_of b) f) None
 
 unfoldable pub number_of : List ℕ → Option ℕ
-number_of f = cond (leb 1 (length f) && leb (length f) 16) (number_from 0 f) none
+number_of f = cond (leb 1 (length f) && leb (length f) 16) (number_from 0 f) None
 
 unfoldable pub only : {A : Type 0} → (List ℕ → Option A) → List (List ℕ) → Option A
-only read [] = none
+only read [] = None
 only read (f ∷ []) = read f
-only read (f ∷ g ∷ fs) = none
+only read (f ∷ g ∷ fs) = None
 
 unfoldable pub is : List ℕ → List ℕ → Bool
 is [] [] = true

@@ -4,6 +4,7 @@ pub mod Field
 pub mod Line
 pub mod Name
 pub mod Replay
+pub mod Results
 pub mod Session
 pub mod SessionIsolation
 pub mod SessionTables

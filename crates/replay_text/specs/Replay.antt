@@ -4,28 +4,27 @@
 --     answers n s ls      the bytes that lines ls write, on session s and after n output lines
 --     output l            the output of input l
 -- Assumes nothing.
-use Rattle.std.specs.Prelude.{cond, List, [], ◌∷◌, ◌++◌, ℕ, ◌+◌, eqb, length}
+use Rattle.std.specs.Prelude.{cond, List, [], ◌∷◌, ◌++◌, ℕ, ◌+◌, eqb, length, Ok, Err, Some, None}
 use Rattle.replay_text.specs.Bytes.{line_feed}
 use Rattle.replay_text.specs.Line.{line_of}
 use Rattle.replay_text.specs.Text.{header, answer_line}
 use Rattle.replay_text.specs.SessionTables.{Session, start}
 use Rattle.replay_text.specs.Session.{reply_to, after_line}
-use Rattle.replay_text.specs.declared.Reply.{Reply}
-use Rattle.replay_text.specs.declared.Reply.TheVariants.{Silent, Says, NoRoom}
+use Rattle.replay_text.specs.Results.{Reply}
 
 unfoldable pub lines_from : List ℕ → List ℕ → List (List ℕ)
 lines_from p [] = cond (eqb (length p) 0) [] (p ∷ [])
 lines_from p (b ∷ l) = cond (eqb b line_feed) (p ∷ lines_from [] l) (lines_from (p ++ (b ∷ [])) l)
 
 abbrev pub text_of : ℕ → Reply → List ℕ
-text_of n Silent = []
-text_of n (Says x) = answer_line (n + 1) x
-text_of n NoRoom = []
+text_of n (Ok None) = []
+text_of n (Ok (Some x)) = answer_line (n + 1) x
+text_of n (Err e) = []
 
 abbrev pub count_after : ℕ → Reply → ℕ
-count_after n Silent = n
-count_after n (Says x) = n + 1
-count_after n NoRoom = n
+count_after n (Ok None) = n
+count_after n (Ok (Some x)) = n + 1
+count_after n (Err e) = n
 
 unfoldable pub answers : ℕ → Session → List (List ℕ) → List ℕ
 answers n s [] = []

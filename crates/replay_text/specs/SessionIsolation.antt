@@ -7,7 +7,7 @@
 --     lines_left s l      the session after the lines
 --     SessionIsolation    THE CLAIM: `Isolation`, with lines in the place of requests
 -- The theorems are in proofs/SessionIsolation.antt. Assumes nothing.
-use Rattle.std.specs.Prelude.{◌≡◌, Bool, true, false, cond}
+use Rattle.std.specs.Prelude.{◌≡◌, Bool, true, false, cond, Ok, Err}
 use mathlib.Core.List.{List, [], ◌∷◌}
 use Rattle.kinds.specs.Answer.{numbered}
 use Rattle.kinds.specs.Words.{at}
@@ -16,43 +16,41 @@ use Rattle.kinds.specs.declared.number.PeNumber.{PeNumber}
 use Rattle.kinds.specs.declared.request.Request.{Request}
 use Rattle.isolation.specs.Isolation.{places_in}
 use Rattle.isolation.specs.View.{Bridge, Written, View}
-use Rattle.replay_text.specs.declared.Line.{Line}
-use Rattle.replay_text.specs.declared.Line.TheVariants.{Size, Set, Request as RequestLine, Bad}
+use Rattle.replay_text.specs.Results.{Parsed, Reply, says}
+use Rattle.replay_text.specs.declared.Line.TheVariants.{Size, Set, Request as RequestLine}
 use Rattle.profile.specs.Agree.{Closed, belongs}
 use Rattle.profile.specs.Fence.{fence_word}
 use Rattle.replay_text.specs.SessionTables.{Session}
-use Rattle.replay_text.specs.declared.Reply.{Reply}
-use Rattle.replay_text.specs.declared.Reply.TheVariants.{Says}
 use Rattle.replay_text.specs.Session.{reply_to, after_line}
 
 abbrev pub bridge_in : Session → Bridge
 bridge_in s = record { tables = s.tables; memory = s.memory; live = s.live }
 
-unfoldable pub requests_only : List Line → Bool
+unfoldable pub requests_only : List Parsed → Bool
 requests_only [] = true
-requests_only (Size n m r w ∷ l) = false
-requests_only (Set t i v ∷ l) = false
-requests_only (RequestLine q ∷ l) = requests_only l
-requests_only (Bad ∷ l) = requests_only l
+requests_only (Ok (Size n m r w) ∷ l) = false
+requests_only (Ok (Set t i v) ∷ l) = false
+requests_only (Ok (RequestLine q) ∷ l) = requests_only l
+requests_only (Err e ∷ l) = requests_only l
 
-unfoldable pub requests_in : List Line → List Request
+unfoldable pub requests_in : List Parsed → List Request
 requests_in [] = []
-requests_in (Size n m r w ∷ l) = requests_in l
-requests_in (Set t i v ∷ l) = requests_in l
-requests_in (RequestLine q ∷ l) = q ∷ requests_in l
-requests_in (Bad ∷ l) = requests_in l
+requests_in (Ok (Size n m r w) ∷ l) = requests_in l
+requests_in (Ok (Set t i v) ∷ l) = requests_in l
+requests_in (Ok (RequestLine q) ∷ l) = q ∷ requests_in l
+requests_in (Err e ∷ l) = requests_in l
 
-unfoldable pub own_replies : (PeNumber → Bool) → Session → List Line → List Reply
+unfoldable pub own_replies : (PeNumber → Bool) → Session → List Parsed → List Reply
 own_replies G s [] = []
-own_replies G s (Size n m r w ∷ l) = own_replies G (after_line s (Size n m r w)) l
-own_replies G s (Set t i v ∷ l) = own_replies G (after_line s (Set t i v)) l
-own_replies G s (RequestLine q ∷ l) =
+own_replies G s (Ok (Size n m r w) ∷ l) = own_replies G (after_line s (Ok (Size n m r w))) l
+own_replies G s (Ok (Set t i v) ∷ l) = own_replies G (after_line s (Ok (Set t i v))) l
+own_replies G s (Ok (RequestLine q) ∷ l) =
     cond (belongs G s.tables s.live q)
-    (reply_to s (RequestLine q) ∷ own_replies G (after_line s (RequestLine q)) l)
-    (own_replies G (after_line s (RequestLine q)) l)
-own_replies G s (Bad ∷ l) = own_replies G (after_line s Bad) l
+    (reply_to s (Ok (RequestLine q)) ∷ own_replies G (after_line s (Ok (RequestLine q))) l)
+    (own_replies G (after_line s (Ok (RequestLine q))) l)
+own_replies G s (Err e ∷ l) = own_replies G (after_line s (Err e)) l
 
-unfoldable pub lines_left : Session → List Line → Session
+unfoldable pub lines_left : Session → List Parsed → Session
 lines_left s [] = s
 lines_left s (x ∷ l) = lines_left (after_line s x) l
 
@@ -61,7 +59,7 @@ pub record SessionIsolation : Type 0 where
   pub isolated : (G : PeNumber → Bool) (s t : Session) → Closed G s.tables → View G (bridge_in s) (bridge_in t)
       -- every two lists of request lines and bad lines in which the group's own requests are the same, in the same order. A fatal message or fence clear
       -- that is answered done would have to stand at the same place in both; no line of a text is one (TextIsolation)
-      → (l k : List Line) → requests_only l ≡ true → requests_only k ≡ true → places_in G (bridge_in s) (requests_in l) ≡ places_in G (bridge_in t) (requests_in k)
+      → (l k : List Parsed) → requests_only l ≡ true → requests_only k ≡ true → places_in G (bridge_in s) (requests_in l) ≡ places_in G (bridge_in t) (requests_in k)
       -- each of them gets the same answer in both; the group's stop bits, error records and interrupt records are equal after both, and so is the fence word
       → (own_replies G s l ≡ own_replies G t k) × Written G s.tables.sizes.interrupts (lines_left s l).live (lines_left t k).live
       × (at (lines_left s l).live.state (fence_word s.tables.sizes.pes) ≡ at (lines_left t k).live.state (fence_word t.tables.sizes.pes))
@@ -69,4 +67,4 @@ pub record SessionIsolation : Type 0 where
 -- ---- lines are requests
 
 abbrev pub saying : Answer → Reply
-saying a = Says (numbered a)
+saying a = says (numbered a)

@@ -13,7 +13,7 @@ use Rattle.std.specs.Prelude.{cond, List, [], ◌∷◌, ◌++◌, ℕ, suc, ltb
 use Rattle.replay_text.specs.Line.{line_of}
 use Rattle.replay_text.specs.SessionTables.{Session, start}
 use Rattle.replay_text.specs.Session.{reply_to, after_line}
-use Rattle.replay_text.specs.declared.Reply.{Reply}
+use Rattle.replay_text.specs.Results.{Reply}
 use Rattle.replay_text.specs.Bytes.{line_feed}
 use Rattle.replay_text.specs.Replay.{text_of, count_after}
 

@@ -8,9 +8,9 @@ use kinds::answer::Numbers;
 use kinds::request::Request;
 
 // The byte that parts fields, and the byte that ends a line.
-pub const TAB: u8 = 9;
+pub const TAB: u8 = b'\t';
 
-pub const LINE_FEED: u8 = 10;
+pub const LINE_FEED: u8 = b'\n';
 
 // The installed size of every replay: 4 GiB.
 pub const INSTALLED: u64 = 0x1_0000_0000;
@@ -19,7 +19,7 @@ pub const INSTALLED: u64 = 0x1_0000_0000;
 const BAD: u64 = 7;
 
 // The tables, as a set line names them.
-#[derive(Clone, Copy)]
+#[derive(Clone, Copy, Debug, PartialEq, Eq)]
 pub enum Table {
     Requesters,
     Entries,
@@ -31,7 +31,7 @@ pub enum Table {
     State,
 }
 
-#[derive(Clone, Copy)]
+#[derive(Clone, Copy, Debug, PartialEq, Eq)]
 pub enum Line {
     Size {
         pes: u64,
@@ -45,16 +45,18 @@ pub enum Line {
         value: u64,
     },
     Request(Request),
-    Bad,
 }
 
-// What a line writes: nothing, or an output line with these numbers. NoRoom: the lent tables are too short for a size line, and nothing was done.
-#[derive(Clone, Copy)]
-pub enum Reply {
-    Silent,
-    Says(Numbers),
-    NoRoom,
-}
+// A line of none of these forms.
+#[derive(Clone, Copy, Debug, PartialEq, Eq)]
+pub struct BadLine;
+
+// The lent tables are too short for a size line, and nothing was done.
+#[derive(Clone, Copy, Debug, PartialEq, Eq)]
+pub struct NoRoom;
+
+// What a line writes: nothing, or an output line with these numbers.
+pub type Reply = Result<Option<Numbers>, NoRoom>;
 
 // What a bad line answers.
 pub fn bad() -> Numbers

@@ -1,6 +1,4 @@
-pub mod ByteLaws
-pub mod NameInLaws
+pub mod FieldsLaws
+pub mod NameLaws
 pub mod NumberInLaws
-pub mod PlaceLaws
-pub mod ReadInLaws
 pub mod ReadLaws

@@ -1,2 +1,1 @@
-pub mod Place
-pub mod Reading
+pub mod Fields

@@ -1,60 +1,101 @@
 // The fields of a line of replay text, from left to right. Defined in crates/replay_text/specs/Field.antt.
-// A field ends at a tab or at the end of the line; the next one is found from there.
 #![tactic(auto)]
 
 mod name;
 mod number;
-mod place;
 
-ghost use Rattle.std.specs.Prelude.{◌≡◌};
-ghost use Rattle.text_fields.specs.Reading.{read_as, field_read};
+ghost use Rattle.std.specs.Prelude.{◌≡◌, ◌∷◌, ◌==◌, [], List, ℕ, Option, MatchOption};
+ghost use Rattle.std.specs.List.{position};
+ghost use Rattle.replay_text.specs.Bytes.{tab};
+ghost use Rattle.replay_text.specs.Field.{fields_of, is};
+ghost use Rattle.text_fields.specs.Fields.{fields_in, next_value, last_value, after_next};
 
-use name::{direction_in, part_in, table_in};
-pub use name::{direction_at, part_at, table_at};
-use number::number_in;
-use place::field_after;
-pub use place::{first, same};
+use replay_text::{BadLine, TAB};
+use std::marker::Model;
 
-// What is asked for in a field.
-#[derive(Clone, Copy)]
-pub enum Kind {
-    Number,
-    Table,
-    Direction,
-    Part,
+// A value that a field can hold.
+pub trait FieldValue: Copy {
+    // What the text of a field says.
+    ghost read: { List ℕ → Option Self };
+
+    fn in_text(text: &[u8]) -> Option<Self>
+        ensures { result ≡ read text.now };
 }
 
-// What a field holds, the number or the place of the name in the list of names, and where it ends. A field that does not hold what was asked for ends past
-// the line, and so does every field that is read from there.
-#[derive(Clone, Copy)]
-pub struct Field {
-    pub value: u64,
-    pub end: usize,
+// The fields of a line that are left to read.
+#[derive(Drop)]
+pub struct Fields<'a> {
+    // From the first byte of the next field on; none after the last field.
+    rest: Option<&'a [u8]>,
 }
 
-// The field after the one that ends at `from`.
-pub fn read_field(line: &[u8], from: usize, kind: Kind) -> Field
-    ensures { result ≡ field_read kind line.now from }
-{
-    let past = line.len() + 1;
-    if line.len() <= from {
-        return Field {
-            value: 0,
-            end: past,
-        };
+impl<'a> Model for Fields<'a> {
+    ghost use Rattle.std.specs.Prelude.{List, ℕ};
+    ghost use Rattle.text_fields.specs.Fields.{fields_in};
+
+    ghost Value = { List (List ℕ) };
+
+    ghost view = { λ f. fields_in f.rest };
+}
+
+impl<'a> Fields<'a> {
+    pub fn of(line: &'a [u8]) -> Fields<'a>
+        ensures { result ≡ fields_of line.now }
+    {
+        Fields { rest: Some(line) }
     }
-    let text = field_after(line, from);
-    read_as(text, from + 1 + text.len(), past, kind)
+
+    // The text of the next field.
+    pub fn text(&mut self) -> Option<&'a [u8]>
+        ensures { MatchOption result ((self.old ≡ []) × (self.new ≡ [])) (λ text. self.old ≡ text.now ∷ self.new) }
+    {
+        let line = self.rest?;
+        match tab_in(line) {
+            Some(end) => {
+                self.rest = Some(&line[end + 1..]);
+                Some(&line[..end])
+            }
+            None => {
+                self.rest = None;
+                Some(line)
+            }
+        }
+    }
+
+    // The value of the next field.
+    pub fn next<T: FieldValue>(&mut self) -> Result<T, BadLine>
+        ensures value { result ≡ next_value T.read self.old }
+        ensures left { self.new ≡ after_next self.old }
+    {
+        match self.text() {
+            Some(text) => T::in_text(text).ok_or(BadLine),
+            None => Err(BadLine),
+        }
+    }
+
+    // The value of the one field that is left.
+    pub fn last<T: FieldValue>(mut self) -> Result<T, BadLine>
+        ensures { result ≡ last_value T.read self.entry }
+    {
+        let value = self.next()?;
+        match self.rest {
+            Some(_) => Err(BadLine),
+            None => Ok(value),
+        }
+    }
 }
 
-// The text of a field that ends at `end`.
-fn read_as(text: &[u8], end: usize, past: usize, kind: Kind) -> Field
-    ensures { result ≡ read_as kind text.now end past }
+// Whether a text is this word.
+#[tactic(auto, using(crate::proofs::NameLaws::is_equal))]
+pub fn same(text: &[u8], word: &[u8]) -> bool
+    ensures { result ≡ is text.now word.now }
 {
-    match kind {
-        Kind::Number => number_in(text, end, past),
-        Kind::Table => table_in(text, end, past),
-        Kind::Direction => direction_in(text, end, past),
-        Kind::Part => part_in(text, end, past),
-    }
+    text == word
+}
+
+// The place of the first tab.
+fn tab_in(line: &[u8]) -> Option<usize>
+    ensures { result ≡ position (λ b. b == tab) line.now }
+{
+    line.iter().position(|byte| *byte == TAB)
 }

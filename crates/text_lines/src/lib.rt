@@ -6,11 +6,10 @@ mod request;
 
 ghost use Rattle.std.specs.Prelude.{◌≡◌};
 ghost use Rattle.replay_text.specs.Line as spec;
-ghost use Rattle.text_fields.specs.Place.{fields_after};
 
-use replay_text::Line;
+use replay_text::{BadLine, Line};
 use request::read_request;
-use text_fields::{Kind, first, read_field, same, table_at};
+use text_fields::{Fields, same};
 
 // The most that a size line can ask for.
 pub const MOST_PES: u64 = 16;
@@ -21,75 +20,69 @@ pub const MOST_REQUESTERS: u64 = 64;
 
 pub const MOST_MEMORY: u64 = 4096;
 
-pub fn parse(line: &[u8]) -> Line
+pub fn parse(line: &[u8]) -> Result<Line, BadLine>
     ensures { result ≡ spec.line_of line.now }
 {
-    let word = first(line);
-    let end = word.len();
-    if same(word, b"size") {
-        return read_size(line, end);
+    let mut fields = Fields::of(line);
+    match fields.text() {
+        Some(word) => read_line(word, fields),
+        None => Err(BadLine),
     }
-    if same(word, b"set") {
-        return read_set(line, end);
-    }
-    read_request(line, end, word)
 }
 
-fn read_size(line: &[u8], word: usize) -> Line
-    ensures { result ≡ spec.size_line (fields_after line.now word) }
+// By its first field; `fields` are those after it.
+#[tactic(auto, using(replay_text::proofs::FormLaws::picks))]
+fn read_line(word: &[u8], fields: Fields<'_>) -> Result<Line, BadLine>
+    ensures { result ≡ spec.formed spec.forms word.now fields.entry }
 {
-    let pes = read_field(line, word, Kind::Number);
-    let interrupts = read_field(line, pes.end, Kind::Number);
-    let requesters = read_field(line, interrupts.end, Kind::Number);
-    let memory = read_field(line, requesters.end, Kind::Number);
-    if memory.end != line.len() {
-        return Line::Bad;
+    if same(word, b"size") {
+        read_size(fields)
+    } else if same(word, b"set") {
+        read_set(fields)
+    } else {
+        read_request(word, fields)
     }
-    size_within(pes.value, interrupts.value, requesters.value, memory.value)
+}
+
+fn read_size(mut fields: Fields<'_>) -> Result<Line, BadLine>
+    ensures { result ≡ spec.size_line fields.entry }
+{
+    let pes = fields.next()?;
+    let interrupts = fields.next()?;
+    let requesters = fields.next()?;
+    let memory = fields.last()?;
+    size_within(pes, interrupts, requesters, memory)
 }
 
 // The sizes, where they are within the limits.
-fn size_within(pes: u64, interrupts: u64, requesters: u64, memory: u64) -> Line
+#[tactic(auto, unfolding(replay_text::specs::Line::sized))]
+fn size_within(pes: u64, interrupts: u64, requesters: u64, memory: u64) -> Result<Line, BadLine>
     ensures { result ≡ spec.sized pes interrupts requesters memory }
 {
-    if pes < 1 {
-        return Line::Bad;
-    }
-    if MOST_PES < pes {
-        return Line::Bad;
-    }
-    if MOST_INTERRUPTS < interrupts {
-        return Line::Bad;
-    }
-    if requesters < 1 {
-        return Line::Bad;
-    }
-    if MOST_REQUESTERS < requesters {
-        return Line::Bad;
-    }
-    if MOST_MEMORY < memory {
-        return Line::Bad;
-    }
-    Line::Size {
-        pes,
-        interrupts,
-        requesters,
-        memory,
+    let fits = 1 <= pes
+        && pes <= MOST_PES
+        && interrupts <= MOST_INTERRUPTS
+        && 1 <= requesters
+        && requesters <= MOST_REQUESTERS
+        && memory <= MOST_MEMORY;
+    if fits {
+        Ok(Line::Size {
+            pes,
+            interrupts,
+            requesters,
+            memory,
+        })
+    } else {
+        Err(BadLine)
     }
 }
 
-fn read_set(line: &[u8], word: usize) -> Line
-    ensures { result ≡ spec.set_line (fields_after line.now word) }
+fn read_set(mut fields: Fields<'_>) -> Result<Line, BadLine>
+    ensures { result ≡ spec.set_line fields.entry }
 {
-    let table = read_field(line, word, Kind::Table);
-    let index = read_field(line, table.end, Kind::Number);
-    let value = read_field(line, index.end, Kind::Number);
-    if value.end != line.len() {
-        return Line::Bad;
-    }
-    Line::Set {
-        table: table_at(table.value),
-        index: index.value,
-        value: value.value,
-    }
+    Ok(Line::Set {
+        table: fields.next()?,
+        index: fields.next()?,
+        value: fields.last()?,
+    })
 }

@@ -1,110 +1,85 @@
 // What the line of a request says.
 ghost use Rattle.std.specs.Prelude.{◌≡◌};
-ghost use Rattle.kinds.specs.declared.request.Direction.TheVariants.{Write};
 ghost use Rattle.replay_text.specs.Line as spec;
-ghost use Rattle.text_fields.specs.Place.{fields_after};
-ghost use Rattle.text_fields.specs.Reading.{name_at};
 
 use crate::firmware::read_firmware;
 use kinds::number::ByteAddress;
-use kinds::request::{DmaRequest, Request};
-use replay_text::Line;
-use text_fields::{Kind, direction_at, read_field, same};
+use kinds::request::{Direction, DmaRequest, Request};
+use replay_text::{BadLine, Line};
+use text_fields::{Fields, same};
 
-// The data of a DMA are below it.
-const DATA_LIMIT: u64 = 4294967296;
-
-// By its first field, which ends at `end`.
-pub(crate) fn read_request(line: &[u8], end: usize, word: &[u8]) -> Line
-    ensures { result ≡ spec.formed spec.request_forms word.now (fields_after line.now end) }
+// By its first field; `fields` are those after it.
+#[tactic(auto, using(replay_text::proofs::FormLaws::picks))]
+pub(crate) fn read_request(word: &[u8], fields: Fields<'_>) -> Result<Line, BadLine>
+    ensures { result ≡ spec.formed spec.request_forms word.now fields.entry }
 {
     if same(word, b"dma") {
-        return read_dma(line, end);
+        read_dma(fields)
+    } else if same(word, b"load") {
+        read_load(fields)
+    } else if same(word, b"store") {
+        read_store(fields)
+    } else if same(word, b"error") {
+        read_error(fields)
+    } else {
+        read_firmware(word, fields)
     }
-    if same(word, b"load") {
-        return read_load(line, end);
-    }
-    if same(word, b"store") {
-        return read_store(line, end);
-    }
-    if same(word, b"error") {
-        return read_error(line, end);
-    }
-    read_firmware(line, end, word)
 }
 
-fn read_dma(line: &[u8], word: usize) -> Line
-    ensures { result ≡ spec.dma_line (fields_after line.now word) }
+fn read_dma(mut fields: Fields<'_>) -> Result<Line, BadLine>
+    ensures { result ≡ spec.dma_line fields.entry }
 {
-    let requester = read_field(line, word, Kind::Number);
-    let direction = read_field(line, requester.end, Kind::Direction);
-    let address = read_field(line, direction.end, Kind::Number);
-    let length = read_field(line, address.end, Kind::Number);
-    let data = read_field(line, length.end, Kind::Number);
-    if data.end != line.len() {
-        return Line::Bad;
-    }
-    dma(
-        requester.value,
-        direction.value,
-        address.value,
-        length.value,
-        data.value,
-    )
+    let requester = fields.next()?;
+    let direction = fields.next()?;
+    let address = fields.next()?;
+    let length = fields.next()?;
+    let data = fields.last()?;
+    dma(requester, direction, ByteAddress(address), length, data)
 }
 
-// A DMA, where its data are in 32 bits; `direction` is the place of its name.
-fn dma(requester: u64, direction: u64, address: u64, length: u64, data: u64) -> Line
-    ensures { result ≡ spec.dma requester (name_at spec.directions Write direction) address length «data» }
+// A DMA, where its data are in 32 bits.
+#[tactic(auto, unfolding(replay_text::specs::Line::dma))]
+fn dma(
+    requester: u64,
+    direction: Direction,
+    address: ByteAddress,
+    length: u64,
+    data: u64,
+) -> Result<Line, BadLine>
+    ensures { result ≡ spec.dma requester direction address.0 length «data» }
 {
-    if DATA_LIMIT <= data {
-        return Line::Bad;
+    match u32::try_from(data) {
+        Ok(data) => Ok(Line::Request(Request::Dma(DmaRequest {
+            requester,
+            direction,
+            address,
+            length,
+            data,
+        }))),
+        Err(_) => Err(BadLine),
     }
-    Line::Request(Request::Dma(DmaRequest {
-        requester,
-        direction: direction_at(direction),
-        address: ByteAddress(address),
-        length,
-        data: data as u32,
-    }))
 }
 
-fn read_load(line: &[u8], word: usize) -> Line
-    ensures { result ≡ spec.load_line (fields_after line.now word) }
+// Kept: a load and a store share these two reads alone, and a function of both would need as many lines at each.
+fn read_load(mut fields: Fields<'_>) -> Result<Line, BadLine>
+    ensures { result ≡ spec.load_line fields.entry }
 {
-    let address = read_field(line, word, Kind::Number);
-    let width = read_field(line, address.end, Kind::Number);
-    if width.end != line.len() {
-        return Line::Bad;
-    }
-    Line::Request(Request::Load {
-        address: ByteAddress(address.value),
-        width: width.value,
-    })
+    let address = ByteAddress(fields.next()?);
+    let width = fields.last()?;
+    Ok(Line::Request(Request::Load { address, width }))
 }
 
-fn read_store(line: &[u8], word: usize) -> Line
-    ensures { result ≡ spec.store_line (fields_after line.now word) }
+fn read_store(mut fields: Fields<'_>) -> Result<Line, BadLine>
+    ensures { result ≡ spec.store_line fields.entry }
 {
-    let address = read_field(line, word, Kind::Number);
-    let width = read_field(line, address.end, Kind::Number);
-    if width.end != line.len() {
-        return Line::Bad;
-    }
-    Line::Request(Request::Store {
-        address: ByteAddress(address.value),
-        width: width.value,
-    })
+    let address = ByteAddress(fields.next()?);
+    let width = fields.last()?;
+    Ok(Line::Request(Request::Store { address, width }))
 }
 
-fn read_error(line: &[u8], word: usize) -> Line
-    ensures { result ≡ spec.error_line (fields_after line.now word) }
+fn read_error(fields: Fields<'_>) -> Result<Line, BadLine>
+    ensures { result ≡ spec.error_line fields.entry }
 {
-    let requester = read_field(line, word, Kind::Number);
-    if requester.end != line.len() {
-        return Line::Bad;
-    }
-    Line::Request(Request::Error {
-        requester: requester.value,
-    })
+    let requester = fields.last()?;
+    Ok(Line::Request(Request::Error { requester }))
 }

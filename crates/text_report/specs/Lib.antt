@@ -1,3 +1,3 @@
-pub mod Padded
+pub mod Output
 pub mod Placed
 pub mod Written

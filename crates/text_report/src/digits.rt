@@ -6,34 +6,22 @@ ghost use Rattle.text_report.specs.Placed.{Wrote};
 // The digits of 64 bits, at most in decimal and always in hexadecimal.
 const DECIMAL_DIGITS: usize = 20;
 
-const HEXADECIMAL_DIGITS: usize = 16;
-
-// Number n in decimal, and the byte `end`; the place after them.
-pub(crate) fn decimal_field(out: &mut [u8], at: usize, n: u64, end: u8) -> usize
-    requires { at + spec.decimal_room ≤ length out.old }
-    ensures { Wrote (spec.ended_by end (spec.decimal n)) out.old at out.new result }
-{
-    let count = places(n);
-    put_digits(out, at, 10, count, n, end)
-}
-
-// Value v in 16 hexadecimal digits, in the same way.
-pub(crate) fn hexadecimal_field(out: &mut [u8], at: usize, v: u64, end: u8) -> usize
-    requires { at + spec.hexadecimal_room ≤ length out.old }
-    ensures { Wrote (spec.ended_by end (spec.hexadecimal v)) out.old at out.new result }
-{
-    put_digits(out, at, 16, HEXADECIMAL_DIGITS, v, end)
-}
+pub(crate) const HEXADECIMAL_DIGITS: usize = 16;
 
 // The last `count` digits of n, and the byte `end`; the place after them.
-fn put_digits(out: &mut [u8], at: usize, base: u64, count: usize, n: u64, end: u8) -> usize
+pub(crate) fn put_digits(
+    out: &mut [u8],
+    at: usize,
+    base: u64,
+    count: usize,
+    n: u64,
+    end: u8,
+) -> usize
     requires { (at + count < length out.old) × (0 < base) × (base ≤ 16) }
     ensures { Wrote (spec.ended_by end (spec.digits base count n)) out.old at out.new result }
 {
-    let mut i = count;
     let mut rest = n;
-    while 0 < i {
-        i -= 1;
+    for i in (0..count).rev() {
         out[at + i] = glyph(rest % base);
         rest /= base;
     }
@@ -46,23 +34,22 @@ fn glyph(d: u64) -> u8
     ensures { result ≡ spec.glyph d }
 {
     if d < 10 {
-        return 48 + d as u8;
+        b'0' + d as u8
+    } else {
+        b'a' + (d as u8 - 10)
     }
-    87 + d as u8
 }
 
 // How many decimal digits n has.
-fn places(n: u64) -> usize
+pub(crate) fn places(n: u64) -> usize
     ensures { (result ≡ spec.places n) × (result ≤ spec.decimal_digits) }
 {
-    let mut count = 1;
     let mut rest = n;
-    while count < DECIMAL_DIGITS {
+    for count in 1..DECIMAL_DIGITS {
         if rest < 10 {
             return count;
         }
         rest /= 10;
-        count += 1;
     }
-    count
+    DECIMAL_DIGITS
 }

@@ -2,8 +2,8 @@
 use Rattle.replay_session.proofs.EndLaws as laws
 use Rattle.replay_session.proofs.end_line.Goals as goal
 
-pub returns-then-has_room : goal.returns-then-has_room
-returns-then-has_room c = search laws.ended-ran
+pub returns-then-has_room-clause-ended : goal.returns-then-has_room-clause-ended
+returns-then-has_room-clause-ended c = search laws.ended_ran
 
-pub returns : goal.returns
-returns c = search laws.ended-full
+pub returns-else-has_room-clause-ended : goal.returns-else-has_room-clause-ended
+returns-else-has_room-clause-ended c = search laws.ended_full

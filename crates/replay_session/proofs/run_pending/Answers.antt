@@ -2,5 +2,8 @@
 use Rattle.replay_session.proofs.EndLaws as laws
 use Rattle.replay_session.proofs.run_pending.Goals as goal
 
-pub returns : goal.returns
-returns c = search laws.ran-pending
+pub close_line-requires : goal.close_line-requires
+close_line-requires c = c.requires
+
+pub returns-clause-ran : goal.returns-clause-ran
+returns-clause-ran c = search laws.ran_pending

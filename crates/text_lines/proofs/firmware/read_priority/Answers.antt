@@ -1,9 +1,12 @@
 -- `text_lines::firmware::read_priority` meets its contract. Assumes nothing.
-use Rattle.text_fields.proofs.ReadLaws as laws
+use Rattle.text_fields.proofs.ReadLaws.{reads}
 use Rattle.text_lines.proofs.firmware.read_priority.Goals as goal
 
-pub returns-then-priority-line : goal.returns-then-priority-line
-returns-then-priority-line c = search laws.bad-line depth 10
+pub returns-in_err-interrupt : goal.returns-in_err-interrupt
+returns-in_err-interrupt c = search (reads, c.in_err-interrupt.was) depth 24
+
+pub returns-in_err-priority : goal.returns-in_err-priority
+returns-in_err-priority c = search (reads, c.in_ok-interrupt.was, c.in_err-priority.was) depth 24
 
 pub returns : goal.returns
-returns c = search laws.good-line depth 14
+returns c = search (reads, c.in_ok-interrupt.was, c.in_ok-priority.was) depth 24

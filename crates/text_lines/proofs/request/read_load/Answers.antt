@@ -1,9 +1,12 @@
 -- `text_lines::request::read_load` meets its contract. Assumes nothing.
-use Rattle.text_fields.proofs.ReadLaws as laws
+use Rattle.text_fields.proofs.ReadLaws.{reads}
 use Rattle.text_lines.proofs.request.read_load.Goals as goal
 
-pub returns-then-width-line : goal.returns-then-width-line
-returns-then-width-line c = search laws.bad-line depth 10
+pub returns-in_err-next : goal.returns-in_err-next
+returns-in_err-next c = search (reads, c.in_err-next.was) depth 24
+
+pub returns-in_err-width : goal.returns-in_err-width
+returns-in_err-width c = search (reads, c.in_ok-next.was, c.in_err-width.was) depth 24
 
 pub returns : goal.returns
-returns c = search laws.good-line depth 14
+returns c = search (reads, c.in_ok-next.was, c.in_ok-width.was) depth 24

@@ -1,12 +1,9 @@
 -- `text_report::digits::put_digits` meets its contract. Assumes nothing.
-use lib.ListN.{length-set}
-use borrow.Author.Rules.{rules}
-use native.Mathlib.Omega.{arith}
 use Rattle.text_report.proofs.DigitLaws as laws
 use Rattle.text_report.proofs.digits.put_digits.Goals as goal
 
 pub loop-i-preserved : goal.loop-i-preserved
-loop-i-preserved c = (search rules, simp length-set (omega arith), search laws.digits-turn)
+loop-i-preserved c = search laws.digits-turn
 
 pub returns : goal.returns
 returns c = search (laws.digits-ended, laws.digits-end, laws.digits-past)

@@ -1,0 +1,35 @@
+// What a replay is lent for its tables: each list whole, the words in use and those after them.
+ghost use Rattle.std.specs.Prelude.{◌≡◌};
+ghost use Rattle.tables.specs.Tables.{lengths_of};
+
+use kinds::record::Lengths;
+use tables::sizes;
+
+#[derive(Drop)]
+pub struct Lent<'a> {
+    pub requesters: &'a mut [u16],
+    pub entries: &'a mut [u64],
+    pub memory: &'a mut [u64],
+    pub peers: &'a mut [u64],
+    pub interrupts: &'a mut [u64],
+    pub windows: &'a mut [u64],
+    pub segments: &'a mut [u16],
+    pub state: &'a mut [u64],
+}
+
+impl<'a> Lent<'a> {
+    pub fn lengths(&self) -> Lengths
+        ensures { result ≡ lengths_of self.now.requesters.now self.now.entries.now self.now.memory.now self.now.peers.now self.now.interrupts.now self.now.windows.now self.now.segments.now self.now.state.now }
+    {
+        sizes::lengths_of(
+            self.requesters,
+            self.entries,
+            self.memory,
+            self.peers,
+            self.interrupts,
+            self.windows,
+            self.segments,
+            self.state,
+        )
+    }
+}

@@ -1,6 +1,0 @@
--- `text_report::put_text` meets its contract. Assumes nothing.
-use Rattle.text_report.proofs.WriteLaws as laws
-use Rattle.text_report.proofs.put_text.Goals as goal
-
-pub returns : goal.returns
-returns c = search laws.put-end
