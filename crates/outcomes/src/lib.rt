@@ -1,16 +1,14 @@
-// Outcomes and checks by what they say: a pass, a refusal, done; answered, known, to be walked. Defined in crates/kinds/specs/Outcome.antt and Check.antt.
+// Outcomes by what they say: a pass, a refusal, done. Defined in crates/kinds/specs/Outcome.antt.
 #![tactic(auto)]
 
 ghost use Rattle.std.specs.Prelude.{◌≡◌};
 ghost use Rattle.kinds.specs.Answer.{refuse};
-ghost use Rattle.kinds.specs.declared.outcome.Check.TheVariants.{Kept, Ready, Walk, Fences};
+ghost use Rattle.kinds.specs.declared.outcome.Check.TheVariants.{Kept};
 ghost use Rattle.kinds.specs.Outcome as spec;
 
 use kinds::answer::{Answer, Reason};
 use kinds::number::{ByteAddress, NO_WORD, PeNumber};
 use kinds::outcome::{Check, Effect, ErrorRecord, Outcome};
-use kinds::record::TranslationEntry;
-use kinds::request::DmaRequest;
 
 // A pass: nothing is changed.
 pub fn passed(pe: PeNumber, address: ByteAddress, words: u64) -> Outcome
@@ -66,34 +64,6 @@ pub fn done(effect: Effect) -> Outcome
         answer: Answer::Done,
         effect,
     }
-}
-
-// A request that is answered; nothing is done.
-pub fn kept(answer: Answer) -> Check
-    ensures { result ≡ Kept answer }
-{
-    Check::Kept(answer)
-}
-
-// A request of a PE whose outcome is known.
-pub fn ready(pe: PeNumber, outcome: Outcome) -> Check
-    ensures { result ≡ Ready pe outcome }
-{
-    Check::Ready(pe, outcome)
-}
-
-// A DMA of a PE whose page table is walked.
-pub fn walk(pe: PeNumber, entry: TranslationEntry, dma: DmaRequest) -> Check
-    ensures { result ≡ Walk pe entry dma }
-{
-    Check::Walk(pe, entry, dma)
-}
-
-// The fence bit becomes this: done at no PE.
-pub fn fences(bit: bool) -> Check
-    ensures { result ≡ Fences bit }
-{
-    Check::Fences(bit)
 }
 
 // A request that is refused with no table word read.

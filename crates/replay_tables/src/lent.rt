@@ -3,7 +3,6 @@ ghost use Rattle.std.specs.Prelude.{◌≡◌};
 ghost use Rattle.tables.specs.Tables.{lengths_of};
 
 use kinds::record::Lengths;
-use tables::sizes;
 
 #[derive(Drop)]
 pub struct Lent<'a> {
@@ -21,15 +20,15 @@ impl<'a> Lent<'a> {
     pub fn lengths(&self) -> Lengths
         ensures { result ≡ lengths_of self.now.requesters.now self.now.entries.now self.now.memory.now self.now.peers.now self.now.interrupts.now self.now.windows.now self.now.segments.now self.now.state.now }
     {
-        sizes::lengths_of(
-            self.requesters,
-            self.entries,
-            self.memory,
-            self.peers,
-            self.interrupts,
-            self.windows,
-            self.segments,
-            self.state,
-        )
+        Lengths {
+            requesters: self.requesters.len() as u64,
+            entries: self.entries.len() as u64,
+            memory: self.memory.len() as u64,
+            peers: self.peers.len() as u64,
+            interrupts: self.interrupts.len() as u64,
+            windows: self.windows.len() as u64,
+            segments: self.segments.len() as u64,
+            state: self.state.len() as u64,
+        }
     }
 }

@@ -3,7 +3,6 @@ ghost use Rattle.std.specs.Prelude.{◌≡◌, ◌≤◌, cond, Ok, Err};
 ghost use Rattle.kinds.specs.declared.answer.Reason.TheVariants.{TableLength};
 ghost use Rattle.kinds.specs.Tests.{all};
 ghost use Rattle.profile.specs.Tables.{most_pes, most_interrupts, limits, dma_lengths, other_lengths, sized};
-ghost use Rattle.tables.specs.Tables.{lengths_of};
 
 use kinds::answer::Reason;
 use kinds::record::{Lengths, Sizes};
@@ -11,32 +10,6 @@ use profile::limits::{
     ENTRY_WORDS, FENCE_WORDS, INTERRUPT_WORDS, MOST_INTERRUPTS, MOST_MEMORY, MOST_PES,
     MOST_REQUESTERS, PEER_WORDS, SEGMENT_COUNT, STATE_WORDS, WINDOW_WORDS,
 };
-
-// The lengths of the lent tables.
-#[inline(always)]
-pub fn lengths_of(
-    requesters: &[u16],
-    entries: &[u64],
-    memory: &[u64],
-    peers: &[u64],
-    interrupts: &[u64],
-    windows: &[u64],
-    segments: &[u16],
-    state: &[u64],
-) -> Lengths
-    ensures { result ≡ lengths_of requesters.now entries.now memory.now peers.now interrupts.now windows.now segments.now state.now }
-{
-    Lengths {
-        requesters: requesters.len() as u64,
-        entries: entries.len() as u64,
-        memory: memory.len() as u64,
-        peers: peers.len() as u64,
-        interrupts: interrupts.len() as u64,
-        windows: windows.len() as u64,
-        segments: segments.len() as u64,
-        state: state.len() as u64,
-    }
-}
 
 #[inline(always)]
 #[tactic(auto, using(crate::proofs::SizedLaws::sized_is))]
