@@ -1,7 +1,7 @@
 -- What numbers stand for, in one table a type with one statement over it.
 --     directions_hold, parts_hold, sizes_hold     each number stands for what its row says
 -- Assumes nothing.
-use Rattle.std.specs.Prelude.{◌≡◌, refl, List, [], ◌∷◌, map, Ok}
+use Rattle.std.specs.Prelude.{◌≡◌, refl, [], ◌∷◌, map, Ok}
 use Rattle.kinds.specs.Codes.{direction_of, part_of, size_of, unnamed}
 use Rattle.kinds.specs.declared.number.PageSize.TheVariants.{K4, K64, M16, M256}
 use Rattle.kinds.specs.declared.request.Direction.TheVariants.{Read, Write}
