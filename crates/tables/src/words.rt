@@ -20,6 +20,7 @@ pub fn pe_word(table: &[u64], index: usize) -> u64
 }
 
 // The number of a PE in a table of 16-bit words.
+// Kept: two functions, each of one line; one over both widths needs a trait whose two bodies are these lines.
 #[inline(always)]
 pub fn short_pe_word(table: &[u16], index: usize) -> u64
     ensures { result ≡ pe_at table.now index }
