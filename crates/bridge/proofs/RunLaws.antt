@@ -1,6 +1,5 @@
 -- What `run` is proved from: a request of a list served is one step, and a list of steps is a run. Assumes nothing.
 use mathlib.Core.Path.{◌≡◌, refl, ap, ◌∙◌}
-use mathlib.Core.Bool.{false}
 use mathlib.Core.List.{List}
 use Prim.Native.Nat.{ℕ, suc, ◌+◌, ◌*◌, ◌/◌, ◌≤◌, ◌<◌, min}
 use native.Mathlib.Nat.{min-le_left, min-le_right}
@@ -18,9 +17,7 @@ use Rattle.request_words.proofs.RunIsolation.{run_isolation}
 use Rattle.request_words.proofs.RunOfList.{run_of_list}
 use Rattle.request_words.proofs.RunRelease.{run_released}
 use Rattle.request_words.specs.Run.{ran_one, ran_on, RunState, ran_to, served}
-use Rattle.cache.specs.Cache.{Cached}
-use Rattle.cache_handle.specs.Lent.{held}
-use Rattle.cache_handle.specs.Promise.{Served}
+use Rattle.handle.specs.Promise.{Handled}
 use Rattle.bridge.specs.Promise.{RanAll}
 
 pub requests_fit : (a b : ℕ) {n : ℕ} → n ≡ min (a / request_words) (b / answer_words) → n * request_words ≤ a
@@ -42,8 +39,8 @@ module _ (f : Tables) (m w : List ℕ) (s : Live) (l : List ℕ) where
   step k e = ap (λ (x : RunState). ran_one f m w x k) e
 
   -- request k, served on what the first k left
-  pub one_ran : (n k : ℕ) {c d j v : List ℕ} {u t : Live} {q : Request} {a : Answer} → k < n → n * request_words ≤ length w → n * answer_words ≤ length l
-      → length j ≡ length l → ran u j ≡ ran_to f m w s l k → q ≡ request_in w k → Served false f (held m u c) q a (held m t d) → v ≡ written_in j k a
+  pub one_ran : (n k : ℕ) {j v : List ℕ} {u t : Live} {q : Request} {a : Answer} → k < n → n * request_words ≤ length w → n * answer_words ≤ length l
+      → length j ≡ length l → ran u j ≡ ran_to f m w s l k → q ≡ request_in w k → Handled f m u q a t → v ≡ written_in j k a
       → ran t v ≡ ran_to f m w s l (k + 1)
   one_ran n k {j} {v} {u} {t} {q} {a} low asks room same before e r told =
       let g : k * request_words + request_words ≤ length w = omega arith in
@@ -51,7 +48,7 @@ module _ (f : Tables) (m w : List ℕ) (s : Live) (l : List ℕ) where
       let asked : q ≡ decoded_at w k = e ∙ request_in_lem w k g in
       let put : v ≡ written j k a = told ∙ written_in_lem j k a h in
       let next : k + 1 ≡ suc k = omega arith in
-      let left : t ≡ (ran_one f m w (ran u j) k).live = ap (λ (x : Cached). x.bare.live) r.leaves ∙ rw asked in
+      let left : t ≡ (ran_one f m w (ran u j) k).live = r.leaves ∙ rw asked in
       let says : a ≡ answered f m u (decoded_at w k) = r.answers ∙ rw asked in
       rw (next, left, put, says) (step k before)
 

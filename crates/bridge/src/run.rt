@@ -4,7 +4,7 @@ ghost use Rattle.request_words.specs.Layout.{request_words, answer_words};
 ghost use Rattle.tables.specs.Lent.{seen, Same};
 ghost use Rattle.bridge.specs.Promise.{RanAll};
 
-use cache_handle;
+use handle;
 use request_lists::{layout, word_lists};
 use tables::lent::{Live, Tables};
 
@@ -27,10 +27,9 @@ pub fn run(
     ensures same { Same live.old live.new }
 {
     let count = count_of(requests.len(), answers.len());
-    let mut no_cache = [0u64; 0];
     for k in 0..count {
         let request = word_lists::request_at(requests, k);
-        let answer = cache_handle::serve::<false>(tables, memory, live, &mut no_cache, request);
+        let answer = handle::handle(tables, memory, live, request);
         word_lists::write_answer(answers, k, answer);
     }
     count

@@ -1,5 +1,6 @@
 -- The checks and their finish, as the code has them, are the definition's, with a cache and without one.
 --     finished_by_lem, filled_by_lem  the outcome and the cache, of every check
+--     uncached_fill       without a cache none is filled
 --     looked-pe, looked-kept  the PE of a check, and one that is answered, are the same after the cache was looked at
 --     looked-placed       a check after the cache was looked at still names the owner
 --     kept_fill           a request that is answered by the checks alone fills no slot
@@ -53,6 +54,9 @@ finished_by_lem false i m c x = finished-is i m x
 either-keeps : (b : Bool) (i : ℕ) (m c : List ℕ) (x : Check) → filled i m c x ≡ c → either_filled b i m c x ≡ c
 either-keeps true i m c x e = e
 either-keeps false i m c x e = refl
+
+pub uncached_fill : (i : ℕ) (m c : List ℕ) (x : Check) → filled_by false i m c x None ≡ c
+uncached_fill i m c x = refl
 
 pub filled_by_lem : (b : Bool) (i : ℕ) (m c : List ℕ) (x : Check) → filled_by b i m c x (quick_at b i c x) ≡ either_filled b i m c (either_looked b i c x)
 unfolding looked

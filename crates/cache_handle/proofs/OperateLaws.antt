@@ -1,16 +1,12 @@
 -- What the functions of `cache_handle` are proved from, a law to a `return`. Assumes nothing.
 use mathlib.Core.Path.{◌≡◌, refl, sym, ap, ap₂, ◌∙◌}
-use mathlib.Core.Bool.{Bool, true, false, not, ◌&&◌}
+use mathlib.Core.Bool.{Bool, true, ◌&&◌}
 use mathlib.Core.List.{List}
 use Prim.Native.Nat.{ℕ}
-use native.Mathlib.Omega.{arith}
-use mir.Syntax.{w16}
-use mir.Val.{Fits}
 use lib.Dec.{eqb}
 use lib.ListN.{length}
 use borrow.Author.Tests.{eq-eqb, ne_eqb}
 use Rattle.kinds.specs.Answer.{numbered, refuse}
-use Rattle.kinds.proofs.Tests.{clash, not_true, not_false, and_right}
 use Rattle.std.specs.Prelude.{cond, Option, Some, None, Result, Ok, Err}
 use Rattle.decide.proofs.DecideLaws.{some_true, some_is, err_false}
 use Rattle.kinds.specs.declared.answer.Reason.{Reason}
@@ -25,8 +21,6 @@ use Rattle.kinds.specs.declared.answer.Reason.TheVariants.{TableLength, BadReque
 use Rattle.kinds.specs.declared.outcome.Check.{Check}
 use Rattle.kinds.specs.declared.outcome.Effect.TheVariants.{Fence}
 use Rattle.kinds.specs.declared.outcome.Outcome.{Outcome}
-use Rattle.kinds.specs.declared.record.Lengths.{Lengths}
-use Rattle.kinds.specs.declared.record.Sizes.{Sizes}
 use Rattle.kinds.specs.declared.request.Operation.{Operation}
 use Rattle.kinds.specs.declared.request.Operation.TheVariants.{Plain, Edit, Invalidate}
 use Rattle.kinds.specs.declared.request.Request.{Request}
@@ -34,12 +28,10 @@ use Rattle.kinds.specs.declared.request.Request.TheVariants.{Unnamed}
 use Rattle.kinds.specs.declared.request.Scope.{Scope}
 use Rattle.profile.specs.Owner.{owner}
 use Rattle.profile.proofs.RequestLaws.{checked-owner}
-use Rattle.profile.specs.Step.{formed, finish, whole, act, act_by, checked}
+use Rattle.profile.specs.Step.{formed, finish, whole, act, act_by, checked, checked_on}
 use Rattle.profile.specs.Tables.{Tables, Live, lengths, sized}
-use Rattle.tables.proofs.SizedLaws.{sized-pes}
-use Rattle.tables.specs.Tables.{live}
 use Rattle.handle.proofs.PlacedLaws.{placed, still}
-use Rattle.edits.specs.Edits.{Bare, good, checked_by}
+use Rattle.edits.specs.Edits.{Bare, checked_by}
 use Rattle.cache.specs.Slots.{cache_words}
 use Rattle.cache.specs.Cache.{looked, filled, Cached, fit, finish_of, cache_by, cached_answer, cached_after}
 use Rattle.cache.proofs.ContentsLaws.{contents}
@@ -50,11 +42,10 @@ use Rattle.cache_dma.specs.Quick.{in_place}
 use Rattle.cache_dma.proofs.QuickLaws.{looked_quick}
 use Rattle.cache_dma.specs.Went.{Went}
 use Rattle.handle.specs.Parts.{pe_of}
-use Rattle.cache_words.specs.Either.{either_answer, either_after}
 use Rattle.cache_words.specs.Operations.{maintained}
 use Rattle.cache_edits.specs.Promise.{Edited, Invalidated}
 use Rattle.cache_edits.proofs.PromiseLaws.{edit-answer, edit-leaves, edit-cache, invalidate-answer, invalidate-cache}
-use Rattle.cache_handle.specs.Lent.{held, either_sized, either_looked, either_filled}
+use Rattle.cache_handle.specs.Lent.{held, either_filled}
 use Rattle.cache_handle.proofs.LentLaws.{looked-placed, kept_fills, ready_fills, fence_fills, either_checked, either-answers, either-leaves}
 use Rattle.cache_handle.specs.Promise.{Served, Operated}
 
@@ -70,32 +61,16 @@ module _ (i : ℕ) (c : List ℕ) {x : Check} {p : PeNumber} {e : TranslationEnt
   a_miss z = walks ∙ ap (λ (v : Option Outcome). in_place v p (Walk p e q)) (sym z) ∙ looked_by
 
 -- `check`
-module _ (b : Bool) (z : Sizes) (i : ℕ) (l : Lengths) (r e w g c : List ℕ) (s : Live) (q : Request) {short : Bool} (asks : short ≡ (b && not (eqb (length c) cache_words))) where
-  abbrev x : (ok : Bool) → Check
-  x ok = checked z i r e w g s ok q
+module _ (f : Tables) (n : ℕ) (s : Live) (c : List ℕ) (q : Request) where
+  abbrev x : Check
+  x = checked_by (eqb (length c) cache_words && sized f.sizes (lengths f n s)) f s q
 
-  -- a cache that is not short has its length
-  fits_all : (u : Bool) → (u && not (eqb (length c) cache_words)) ≡ false → either_sized u (length c) (sized z l) ≡ sized z l
-  fits_all true o = rw (not_false (eqb (length c) cache_words) o)
-  fits_all false o = refl
+  pub too_short : (length c ≡ cache_words → ⊥) → {k : Check} → k ≡ Kept (refuse TableLength) → k ≡ looked f.installed c x
+  unfolding checked looked
+  too_short h e = e ∙ rw (ne_eqb (length c) cache_words h)
 
-  pub checks : short ≡ false → {k y : Check} → k ≡ x (sized z l) → y ≡ either_looked b i c k
-      → y ≡ either_looked b i c (x (either_sized b (length c) (sized z l)))
-  checks o h f = f ∙ rw (h, fits_all b (sym asks ∙ o))
-
-  shorted : (u : Bool) → (u && not (eqb (length c) cache_words)) ≡ true → Kept (refuse TableLength) ≡ x (either_sized u (length c) (sized z l))
-  unfolding checked
-  shorted true o = rw (not_true (eqb (length c) cache_words) o)
-  shorted false o = clash o refl
-
-  no_look : (u : Bool) → Kept (refuse TableLength) ≡ either_looked u i c (Kept (refuse TableLength))
-  unfolding looked
-  no_look true = refl
-  no_look false = refl
-
-  pub too_short : short ≡ true → {k : Check} → k ≡ Kept (refuse TableLength)
-      → k ≡ either_looked b i c (x (either_sized b (length c) (sized z l)))
-  too_short o f = f ∙ rw (← shorted b (sym asks ∙ o)) (no_look b)
+  pub checks : length c ≡ cache_words → {k y : Check} → k ≡ checked_on f n s q → y ≡ looked f.installed c k → y ≡ looked f.installed c x
+  checks h e g = g ∙ rw (e, eq-eqb (length c) cache_words h)
 
 -- an operation, from its answer and what it leaves
 pub operated : (f : Tables) (x : Cached) (q : Operation) {a : Answer} {y : Cached} → a ≡ cached_answer f x q → y ≡ cached_after f x q → Operated f x q a y
@@ -110,50 +85,49 @@ operated f x q says goes = record {
 }
 
 -- `serve`: k is the check of request q on the state s, after the cache was looked at
-module _ (b : Bool) (f : Tables) (m c : List ℕ) (s : Live) (q : Request) {k : Check}
-    (is : k ≡ either_looked b f.installed c (checked f.sizes f.installed f.requesters f.entries f.windows f.segments s
-    (either_sized b (length c) (sized f.sizes (lengths f (length m) s))) q)) where
+module _ (f : Tables) (m c : List ℕ) (s : Live) (q : Request) {k : Check}
+    (is : k ≡ looked f.installed c (checked_by (eqb (length c) cache_words && sized f.sizes (lengths f (length m) s)) f s q)) where
   abbrev z : Cached
   z = held m s c
 
   abbrev y : Check
-  y = either_checked b f z q
+  y = either_checked true f z q
 
   at-owner : {o : Outcome} → o ≡ finish f.installed m y
       → act f.sizes.pes f.peers (pe_of y) o.effect s ≡ act_by f (owner f s q) (finish f.installed m y).effect s
   at-owner said =
       rw said (placed f m (owner f s q) y s
-      (looked-placed b f.installed c (owner f s q) (checked_by (either_sized b (length c) (good f z.bare)) f s q)
-      (checked-owner f.sizes f.installed f.requesters f.entries f.windows f.segments s (either_sized b (length c) (good f z.bare)) q)))
+      (looked-placed true f.installed c (owner f s q) (checked_by (fit f z) f s q)
+      (checked-owner f.sizes f.installed f.requesters f.entries f.windows f.segments s (fit f z) q)))
 
   served : {o : Outcome} {t : Live} {d : List ℕ} → o ≡ finish f.installed m y → t ≡ act f.sizes.pes f.peers (pe_of y) o.effect s
-      → d ≡ either_filled b f.installed m c y → Served b f z q o.answer (held m t d)
+      → d ≡ either_filled true f.installed m c y → Served true f z q o.answer (held m t d)
   served said acts fills = record {
-    answers = ap (λ (u : Outcome). u.answer) said ∙ either-answers b f z q;
-    leaves = rw (fills, acts ∙ at-owner said) (either-leaves b f z q);
+    answers = ap (λ (u : Outcome). u.answer) said ∙ either-answers true f z q;
+    leaves = rw (fills, acts ∙ at-owner said) (either-leaves true f z q);
   }
 
-  pub served_kept : {a : Answer} → k ≡ Kept a → Served b f z q a z
+  pub served_kept : {a : Answer} → k ≡ Kept a → Served true f z q a z
   unfolding finish act
-  served_kept {a} e = let w : y ≡ Kept a = sym is ∙ e in served {o = kept a} (rw w refl) refl (rw w (sym (kept_fills b f.installed m c a)))
+  served_kept {a} e = let w : y ≡ Kept a = sym is ∙ e in served {o = kept a} (rw w refl) refl (rw w (sym (kept_fills true f.installed m c a)))
 
   module _ {o : Outcome} {a : Answer} {t : Live} (answers : a ≡ o.answer) {p : PeNumber} (acts : t ≡ act f.sizes.pes f.peers p o.effect s) where
-    pub served_ready : k ≡ Ready p o → Served b f z q a (held m t c)
+    pub served_ready : k ≡ Ready p o → Served true f z q a (held m t c)
     unfolding finish
     served_ready e =
         let w : y ≡ Ready p o = sym is ∙ e in
-        rw answers (served {o = o} (rw w refl) (rw w acts) (rw w (sym (ready_fills b f.installed m c p o))))
+        rw answers (served {o = o} (rw w refl) (rw w acts) (rw w (sym (ready_fills true f.installed m c p o))))
 
     pub served_walk : {r : TranslationEntry} {d : DmaRequest} {c' : List ℕ} → k ≡ Walk p r d
-        → Went o c' (finish f.installed m (Walk p r d)) (either_filled b f.installed m c (Walk p r d)) → Served b f z q a (held m t c')
+        → Went o c' (finish f.installed m (Walk p r d)) (filled f.installed m c (Walk p r d)) → Served true f z q a (held m t c')
     served_walk {r} {d} e went =
         let w : y ≡ Walk p r d = sym is ∙ e in rw answers (served {o = o} (rw w went.comes) (rw w acts) (rw w went.leaves))
 
-  pub served_fences : {d : Bool} {a : Answer} {t : Live} → k ≡ Fences d → a ≡ Done → t ≡ whole f.sizes.pes (Fence d) s → Served b f z q a (held m t c)
+  pub served_fences : {d : Bool} {a : Answer} {t : Live} → k ≡ Fences d → a ≡ Done → t ≡ whole f.sizes.pes (Fence d) s → Served true f z q a (held m t c)
   unfolding finish act
   served_fences {d} e answers acts =
       let w : y ≡ Fences d = sym is ∙ e in
-      rw answers (served {o = done (Fence d)} (rw w refl) acts (rw w (sym (fence_fills b f.installed m c d))))
+      rw answers (served {o = done (Fence d)} (rw w refl) acts (rw w (sym (fence_fills true f.installed m c d))))
 
 -- `maintain`: r is N, or reason 1
 module _ (f : Tables) (m c : List ℕ) (s : Live) {r : Result ℕ Reason}

@@ -1,20 +1,21 @@
-// One request or operation on the bridge with a translation cache (`CACHED`), and one request on the bridge without, on any tables and any contents of the
-// cache. Memory is written by edits alone. Defined in crates/cache/specs/Cache.antt.
+// One request or operation on the bridge with a translation cache, on any tables and any contents of the cache. Memory is written by edits alone. Defined in
+// crates/cache/specs/Cache.antt.
 #![tactic(auto)]
 
-ghost use Rattle.std.specs.Prelude.{◌≡◌, ◌&&◌, cond, eqb, not, length, Ok, Err};
-ghost use Rattle.cache.specs.Cache.{looked};
+ghost use Rattle.std.specs.Prelude.{◌≡◌, ◌&&◌, true, cond, eqb, length, Ok, Err};
+ghost use Rattle.cache.specs.Cache.{looked, filled};
 ghost use Rattle.kinds.specs.declared.answer.Reason.TheVariants.{TableLength};
 ghost use Rattle.kinds.specs.Answer.{refuse};
 ghost use Rattle.kinds.specs.declared.outcome.Check.TheVariants.{Walk};
-ghost use Rattle.profile.specs.Step.{checked, finish};
+ghost use Rattle.profile.specs.Step.{finish};
 ghost use Rattle.profile.specs.Tables.{sized, lengths};
 ghost use Rattle.tables.specs.Lent.{seen, Same};
 ghost use Rattle.cache.specs.Slots.{cache_words};
 ghost use Rattle.cache_dma.specs.Went.{Went};
 ghost use Rattle.cache_words.specs.Operations.{maintained};
 ghost use Rattle.cache_edits.specs.Promise.{Edited, Invalidated};
-ghost use Rattle.cache_handle.specs.Lent.{held, either_filled, either_looked, either_sized};
+ghost use Rattle.edits.specs.Edits.{checked_by};
+ghost use Rattle.cache_handle.specs.Lent.{held};
 ghost use Rattle.cache_handle.specs.Promise.{Served, Operated};
 
 use cache::limits;
@@ -40,57 +41,35 @@ fn look(installed: u64, cache: &[u64], check: Check) -> Check
     ensures { result ≡ looked installed cache.now check }
 {
     match check {
-        Check::Walk(pe, entry, dma) => {
-            match cache_dma::look(installed, cache, pe, entry, dma) {
-                Some(outcome) => Check::Ready(pe, outcome),
-                None => check,
-            }
-        }
+        Check::Walk(pe, entry, dma) => match cache_dma::look(installed, cache, pe, entry, dma) {
+            Some(outcome) => Check::Ready(pe, outcome),
+            None => check,
+        },
         Check::Kept(_) | Check::Ready(..) | Check::Fences(_) => check,
     }
 }
 
-// The same where there is a cache.
+// All checks, and the cache. No memory is lent: `memory` is its length, in words.
 #[inline(always)]
-fn look_at<const CACHED: bool>(installed: u64, cache: &[u64], check: Check) -> Check
-    ensures { result ≡ either_looked CACHED installed cache.now check }
-{
-    if CACHED {
-        look(installed, cache, check)
-    } else {
-        check
-    }
-}
-
-// Whether a cache has another length than its own.
-#[inline(always)]
-fn is_misfit<const CACHED: bool>(cache: &[u64]) -> bool
-    ensures { result ≡ (CACHED && not (eqb (length cache.now) cache_words)) }
-{
-    CACHED && cache.len() != CACHE_WORDS
-}
-
-// All checks, and the cache where there is one. No memory is lent: `memory` is its length.
-#[inline(always)]
-pub fn check<const CACHED: bool>(
+pub fn check(
     tables: &Tables<'_>,
     memory: usize,
     live: &Live<'_>,
     cache: &[u64],
     request: Request,
 ) -> Check
-    ensures { result ≡ either_looked CACHED tables.now.installed cache.now (checked tables.now.sizes tables.now.installed tables.now.requesters tables.now.entries tables.now.windows tables.now.segments (seen live.now) (either_sized CACHED (length cache.now) (sized tables.now.sizes (lengths tables.now memory (seen live.now)))) request) }
+    ensures { result ≡ looked tables.now.installed cache.now (checked_by (eqb (length cache.now) cache_words && sized tables.now.sizes (lengths tables.now memory (seen live.now))) tables.now (seen live.now) request) }
 {
-    if is_misfit::<CACHED>(cache) {
+    if cache.len() != CACHE_WORDS {
         return outcomes::refuse(Reason::TableLength);
     }
     let check = decide::check(tables, memory, live, request);
-    look_at::<CACHED>(tables.installed, cache, check)
+    look(tables.installed, cache, check)
 }
 
-// The walk, the only reader of memory; with a cache its slot is filled where the DMA passes.
+// The walk, the only reader of memory; its slot is filled where the DMA passes.
 #[inline(always)]
-fn walk<const CACHED: bool>(
+fn walk(
     tables: &Tables<'_>,
     memory: &[u64],
     cache: &mut [u64],
@@ -98,32 +77,28 @@ fn walk<const CACHED: bool>(
     entry: TranslationEntry,
     dma: DmaRequest,
 ) -> Outcome
-    ensures { Went result cache.new (finish tables.now.installed memory.now (Walk pe entry dma)) (either_filled CACHED tables.now.installed memory.now cache.old (Walk pe entry dma)) }
+    ensures { Went result cache.new (finish tables.now.installed memory.now (Walk pe entry dma)) (filled tables.now.installed memory.now cache.old (Walk pe entry dma)) }
 {
-    if CACHED {
-        cache_dma::walk_and_fill(tables.installed, memory, cache, pe, entry, dma)
-    } else {
-        handle::walk(tables, memory, pe, entry, dma)
-    }
+    cache_dma::walk_and_fill(tables.installed, memory, cache, pe, entry, dma)
 }
 
-// A request of the bridge with a cache or without one, which then is lent none. Memory is not written.
+// A request of the bridge with a cache. Memory is not written.
 #[inline(always)]
-pub fn serve<const CACHED: bool>(
+pub fn serve(
     tables: &Tables<'_>,
     memory: &[u64],
     live: &mut Live<'_>,
     cache: &mut [u64],
     request: Request,
 ) -> Answer
-    ensures served { Served CACHED tables.now (held memory.now (seen live.old) cache.old) request result (held memory.now (seen live.new) cache.new) }
+    ensures served { Served true tables.now (held memory.now (seen live.old) cache.old) request result (held memory.now (seen live.new) cache.new) }
     ensures same { Same live.old live.new }
 {
-    match check::<CACHED>(tables, memory.len(), live, cache, request) {
+    match check(tables, memory.len(), live, cache, request) {
         Check::Kept(answer) => answer,
         Check::Ready(pe, outcome) => handle::carry_out(tables, live, pe, outcome),
         Check::Walk(pe, entry, dma) => {
-            let outcome = walk::<CACHED>(tables, memory, cache, pe, entry, dma);
+            let outcome = walk(tables, memory, cache, pe, entry, dma);
             handle::carry_out(tables, live, pe, outcome)
         }
         Check::Fences(bit) => handle::change_fence(tables, live, bit),
@@ -140,10 +115,10 @@ fn fitted_pes(
 ) -> Result<u16, Reason>
     ensures { result ≡ cond (eqb (length cache.now) cache_words && sized tables.now.sizes (lengths tables.now memory (seen live.now))) (Ok tables.now.sizes.pes) (Err TableLength) }
 {
-    if cache.len() != CACHE_WORDS {
-        return Err(Reason::TableLength);
+    match cache.len() {
+        CACHE_WORDS => tables.sized_pes(memory, live),
+        _ => Err(Reason::TableLength),
     }
-    tables.sized_pes(memory, live)
 }
 
 // A refusal with no table word read.
@@ -216,7 +191,7 @@ pub fn operate(
     ensures same { Same live.old live.new }
 {
     match operation {
-        Operation::Plain(request) => serve::<true>(tables, memory, live, cache, request),
+        Operation::Plain(request) => serve(tables, memory, live, cache, request),
         _ => maintain(tables, memory, live, cache, operation),
     }
 }

@@ -2,5 +2,5 @@
 use Rattle.cache_handle.proofs.OperateLaws as laws
 use Rattle.cache_handle.proofs.check.Goals as goal
 
-pub returns-then-is_misfit : goal.returns-then-is_misfit
-returns-then-is_misfit g c = search laws.too_short
+pub returns-then-cache-ne-CACHE_WORDS : goal.returns-then-cache-ne-CACHE_WORDS
+returns-then-cache-ne-CACHE_WORDS c = search laws.too_short

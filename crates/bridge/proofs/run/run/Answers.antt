@@ -12,7 +12,7 @@ loop-k-preserved c = (
   search rules,
   let n = c.count_of-count in
       laws.one_ran _ _ _ _ _ n.result c.loop-k.k c.loop-k-test.true (laws.requests_fit _ _ n.ensures) (laws.answers_fit _ _ n.ensures) c.loop-k.invariant.0 c.loop-k.invariant.2
-      c.request_at-request.ensures c.serve-answer.ensures.served c.write_answer.ensures,
+      c.request_at-request.ensures c.handle-answer.ensures.handled c.write_answer.ensures,
 )
 
 pub returns-clause-ran : goal.returns-clause-ran
