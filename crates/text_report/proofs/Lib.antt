@@ -1,3 +1,5 @@
 pub mod DigitLaws
+pub mod FreeLaws
+pub mod PaddedLaws
 pub mod WriteLaws
 pub mod WrittenLaws

@@ -1,3 +1,4 @@
 pub mod Output
+pub mod Padded
 pub mod Placed
 pub mod Written
