@@ -3,7 +3,6 @@
 #![tactic(auto)]
 
 ghost use Rattle.std.specs.Prelude.{◌≡◌, true};
-ghost use Rattle.kinds.specs.Answer.{refuse};
 ghost use Rattle.edits.specs.Edits.{nameable};
 ghost use Rattle.cache.specs.Cache.{names};
 ghost use Rattle.cache.specs.Slots.{sweep};
@@ -12,8 +11,9 @@ ghost use Rattle.cache_sweeps.specs.Drops.{of_entries};
 
 use cache_sweeps::{drop_all, drop_page, drop_pe, drop_through};
 use kinds::answer::{Answer, Reason};
-use kinds::number::{NO_WORD, PeNumber};
+use kinds::number::PeNumber;
 use kinds::request::Scope;
+use outcomes;
 use tables::words::put;
 
 // The word is written, and each slot whose walk reads it in memory as it was before is emptied. `pes` is N.
@@ -28,7 +28,7 @@ pub fn edit(
     ensures { Edited pes entries.now memory.old cache.old word value result memory.new cache.new }
 {
     if word >= memory.len() as u64 {
-        return refuse(Reason::BadRequest);
+        return outcomes::refusal(Reason::BadRequest);
     }
     drop_through(pes, entries, memory, cache, word);
     put(memory, word as usize, value);
@@ -40,21 +40,10 @@ pub fn invalidate(pes: u16, entries: &[u64], cache: &mut [u64], scope: Scope) ->
     ensures { Invalidated pes entries.now cache.old scope result cache.new }
 {
     if !is_nameable(pes, scope) {
-        return refuse(Reason::BadFirmware);
+        return outcomes::refusal(Reason::BadFirmware);
     }
     drop_named(pes, entries, cache, scope);
     Answer::Done
-}
-
-// A refusal with no table word read.
-fn refuse(reason: Reason) -> Answer
-    ensures { result ≡ refuse reason }
-{
-    Answer::Refuse {
-        reason,
-        words: 0,
-        word: NO_WORD,
-    }
 }
 
 fn is_nameable(pes: u16, scope: Scope) -> bool

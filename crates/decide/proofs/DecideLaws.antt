@@ -1,7 +1,9 @@
 -- What `pass_checks` is proved from: what N is found to be, and what the checks come to then. Assumes nothing.
 use Rattle.std.specs.Prelude.{◌≡◌, refl, Bool, true, false, cond, ℕ, Result, Ok, Err}
+use Rattle.std.specs.Result.{IsErrAnd}
 use Rattle.std.proofs.Common.{arith, sym, ◌∙◌}
 use Rattle.kinds.specs.Answer.{refuse}
+use Rattle.kinds.specs.Outcome.{settled}
 use Rattle.kinds.specs.Words.{at}
 use Rattle.kinds.specs.declared.answer.Reason.{Reason}
 use Rattle.kinds.specs.declared.answer.Reason.TheVariants.{TableLength, BadRequest}
@@ -31,6 +33,11 @@ module _ (f : Tables) (n : ℕ) (s : Live) (y : Request) {r : Result ℕ Reason}
   unfolding checked
   not_sized {x} e =
       let u = err_false f.sizes.pes TableLength x (sized f.sizes (lengths f n s)) (sym found ∙ e) in rw (u.0, u.1)
+
+  -- what `?` hands on of it
+  pub not_settled : {x : Reason} (z : Result Check Reason) → r ≡ Err x → IsErrAnd z (λ v. v ≡ x) → settled z ≡ checked_on f n s y
+  not_settled (Ok a) e h = absurd h
+  not_settled (Err v) e h = rw h (not_sized e)
 
   module _ {p : ℕ} (e : r ≡ Ok p) where
     good : sized f.sizes (lengths f n s) ≡ true

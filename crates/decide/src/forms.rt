@@ -15,7 +15,7 @@ const BLOCK: u64 = 4096;
 fn dma_formed(address: ByteAddress, length: u64) -> bool
     ensures { result ≡ dma_formed address length }
 {
-    1 <= length && length <= BLOCK && address.0 % BLOCK + length <= BLOCK
+    (1..=BLOCK).contains(&length) && address.0 % BLOCK + length <= BLOCK
 }
 
 // Width 1, 2, 4 or 8, and the address a multiple of it.

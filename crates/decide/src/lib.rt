@@ -1,7 +1,7 @@
 // A request on the bridge's tables: its answer and its effect. Nothing is written. Defined in crates/profile/specs/Step.antt.
 #![tactic(auto)]
 
-pub mod forms;
+mod forms;
 
 ghost use Rattle.std.specs.Prelude.{◌≡◌, true, length};
 ghost use Rattle.kinds.specs.Outcome.{settled};
@@ -30,6 +30,14 @@ use outcomes;
 use owners;
 use tables::lent::{Live, Tables};
 
+// The PE of a requester; `pes` is N.
+#[inline(always)]
+fn requester_of(pes: u16, tables: &Tables<'_>, requester: u64) -> Result<PeNumber, Reason>
+    ensures { result ≡ of_requester pes tables.now.sizes.requesters tables.now.requesters requester }
+{
+    owners::of_requester(pes, tables.sizes.requesters, tables.requesters, requester)
+}
+
 // A DMA, by its requester; `pes` is N.
 #[inline(always)]
 #[tactic(auto, unfolding(owners::specs::ByOwner::by_owner, crate::specs::ByRequester::dma_of))]
@@ -41,12 +49,7 @@ fn by_requester(
 ) -> Result<Check, Reason>
     ensures { settled result ≡ by_owner (dma_of tables.now.sizes.interrupts tables.now.installed tables.now.entries (seen live.now).interrupts (seen live.now).state dma) (of_requester pes tables.now.sizes.requesters tables.now.requesters dma.requester) }
 {
-    let pe = owners::of_requester(
-        pes,
-        tables.sizes.requesters,
-        tables.requesters,
-        dma.requester,
-    )?;
+    let pe = requester_of(pes, tables, dma.requester)?;
     dma::check_dma(tables, live, pe, dma)
 }
 
@@ -70,7 +73,7 @@ fn message(pe: PeNumber, requester: u64) -> Check
 fn error_message(pes: u16, tables: &Tables<'_>, requester: u64) -> Result<Check, Reason>
     ensures { settled result ≡ by_owner (message_of requester) (of_requester pes tables.now.sizes.requesters tables.now.requesters requester) }
 {
-    let pe = owners::of_requester(pes, tables.sizes.requesters, tables.requesters, requester)?;
+    let pe = requester_of(pes, tables, requester)?;
     Ok(message(pe, requester))
 }
 
@@ -80,7 +83,7 @@ fn error_message(pes: u16, tables: &Tables<'_>, requester: u64) -> Result<Check,
 fn fatal_message(pes: u16, tables: &Tables<'_>, requester: u64) -> Result<Check, Reason>
     ensures { settled result ≡ by_owner (λ _. Fences true) (of_requester pes tables.now.sizes.requesters tables.now.requesters requester) }
 {
-    owners::of_requester(pes, tables.sizes.requesters, tables.requesters, requester)?;
+    requester_of(pes, tables, requester)?;
     Ok(Check::Fences(true))
 }
 
@@ -99,8 +102,8 @@ fn access(
     mmio::access_of(pes, live.state, hit, stopped)
 }
 
-// A request that is well formed; `pes` is N. The fence is asked for in the arms of the kinds that it stops. Asked for before the `match`, it would
-// cost every request a second look for its kind.
+// A request that is well formed; `pes` is N.
+// Kept, for speed: `fenced` is asked in the arms of the kinds that the fence stops. Asked before the `match`, it costs every request a second look for its kind.
 #[inline(always)]
 fn ask(
     fenced: bool,
@@ -171,14 +174,14 @@ fn pass_checks(
 ) -> Result<Check, Reason>
     ensures { settled result ≡ checked_on tables.now memory (seen live.now) request }
 {
-    match tables.sized_pes(memory, live) {
-        Err(reason) => Err(reason),
-        Ok(_) if !forms::is_formed(request) => Err(Reason::BadRequest),
-        Ok(pes) => ask(is_fenced(tables, live), pes, tables, live, request),
+    let pes = tables.sized_pes(memory, live)?;
+    if !forms::is_formed(request) {
+        return Err(Reason::BadRequest);
     }
+    ask(is_fenced(tables, live), pes, tables, live, request)
 }
 
-// All checks before the walk. No memory is lent: `memory` is its length.
+/// All checks before the walk. No memory is lent: `memory` is its length, in words of 8 bytes.
 #[inline(always)]
 pub fn check(tables: &Tables<'_>, memory: usize, live: &Live<'_>, request: Request) -> Check
     ensures { result ≡ checked_on tables.now memory (seen live.now) request }
@@ -186,7 +189,7 @@ pub fn check(tables: &Tables<'_>, memory: usize, live: &Live<'_>, request: Reque
     outcomes::settled(pass_checks(tables, memory, live, request))
 }
 
-// What is left after the checks: the walk, the only reader of memory. The installed size comes first.
+/// What is left after the checks: the walk, the only reader of memory. `installed` is the installed size in bytes.
 #[inline(always)]
 #[tactic(auto, unfolding(profile::specs::Step::finish))]
 pub fn finish(installed: u64, memory: &[u64], check: Check) -> Outcome
@@ -203,7 +206,7 @@ pub fn finish(installed: u64, memory: &[u64], check: Check) -> Outcome
     }
 }
 
-// The answer to a request and its effect, whatever the lengths of the tables.
+/// The answer to a request and its effect, whatever the lengths of the tables.
 #[inline(always)]
 pub fn decide(tables: &Tables<'_>, memory: &[u64], live: &Live<'_>, request: Request) -> Outcome
     ensures { result ≡ decided tables.now memory.now (seen live.now) request }

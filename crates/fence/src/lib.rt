@@ -5,34 +5,31 @@ ghost use Rattle.std.specs.Prelude.{◌≡◌, ◌-◌, ◌^◌, min};
 ghost use Rattle.kinds.specs.Words.{at};
 ghost use Rattle.profile.specs.Fence.{fence_word, fenced, with_fence, fence_to};
 
-use profile::limits;
+use endpoints::STATE_WORDS;
 use tables::words::{put, word};
 
-// The words of a PE. The fence word stands after those of all PEs.
-const STATE_WORDS: usize = limits::STATE_WORDS as usize;
-
-// The place of the fence word in the state of so many PEs; one that no state has, where it is past every index.
+// The place of the fence word in the state of so many PEs, after the words of all; one that no state has, where it is past every index.
 fn place(pes: u64) -> usize
     ensures { result ≡ min (fence_word pes) (2 ^ 64 - 1) }
 {
     (pes as usize).saturating_mul(STATE_WORDS)
 }
 
-// The fence word in the state of so many PEs, 0 where it has none.
+/// The fence word in the state of so many PEs, 0 where it has none.
 pub fn fence_word(state: &[u64], pes: u64) -> u64
     ensures { result ≡ at state.now (fence_word pes) }
 {
     word(state, place(pes))
 }
 
-// Whether a bridge with this fence word is fenced.
+/// Whether a bridge with this fence word is fenced.
 pub fn is_fenced(word: u64) -> bool
     ensures { result ≡ fenced word }
 {
     word % 2 == 1
 }
 
-// The fence bit becomes `bit`.
+/// The fence bit in the state of so many PEs becomes `bit`. Where the state has no fence word, nothing is written.
 pub fn set_fence(state: &mut [u64], pes: u64, bit: bool)
     ensures { state.new ≡ fence_to pes bit state.old }
 {

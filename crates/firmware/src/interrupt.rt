@@ -57,6 +57,7 @@ fn ended(number: u64, interrupt: Interrupt) -> Outcome
 }
 
 // The end of an interrupt whose number and PE are good.
+// Kept: `end_interrupt` and `set_priority` apart. Each is one test around its own call; a closure for that call is no plainer.
 pub(crate) fn end_interrupt(number: u64, interrupt: Interrupt) -> Outcome
     ensures { result ≡ on_good interrupt (ends number interrupt) }
 {

@@ -1,7 +1,7 @@
 // Firmware requests: what a clear, an end and a priority are answered and do. Defined in crates/profile/specs/Firmware.antt.
 #![tactic(auto)]
 
-pub mod interrupt;
+mod interrupt;
 
 ghost use Rattle.std.specs.Prelude.{◌≡◌};
 ghost use Rattle.kinds.specs.declared.outcome.Check.TheVariants.{Ready};
@@ -23,7 +23,7 @@ use outcomes;
 use owners;
 use tables::lent::{Live, Tables};
 
-// A clear of a stop bit or of the error record of a PE.
+/// A clear of a stop bit or of the error record of a PE; `pes` is N. The error is `BadFirmware`, where `pe` is not below N.
 #[tactic(auto, unfolding(owners::specs::ByOwner::by_owner))]
 pub fn clear(pes: u16, pe: u64, part: Part) -> Result<Check, Reason>
     ensures { settled result ≡ by_owner (λ p. Ready p (done (Release part))) (named BadFirmware pes pe) }
@@ -33,7 +33,8 @@ pub fn clear(pes: u16, pe: u64, part: Part) -> Result<Check, Reason>
     Ok(Check::Ready(pe, outcome))
 }
 
-// The end of an interrupt; `pes` is N.
+/// The end of an interrupt; `pes` is N. The error is `BadFirmware`, where it is no PE's.
+// Kept: `end` and `prioritize` apart. One function over a closure would say all but the middle line twice: in its contract, and in theirs.
 #[tactic(auto, unfolding(owners::specs::ByOwner::by_owner))]
 pub fn end(pes: u16, tables: &Tables<'_>, live: &Live<'_>, number: u64) -> Result<Check, Reason>
     ensures { settled result ≡ by_owner (λ p. Ready p (on_good (interrupt_in (seen live.now).interrupts number) (ends number (interrupt_in (seen live.now).interrupts number)))) (of_interrupt pes tables.now.sizes.interrupts (seen live.now).interrupts number) }
@@ -44,7 +45,7 @@ pub fn end(pes: u16, tables: &Tables<'_>, live: &Live<'_>, number: u64) -> Resul
     Ok(Check::Ready(pe, outcome))
 }
 
-// A new priority of an interrupt; `pes` is N.
+/// A new priority of an interrupt; `pes` is N. The error is `BadFirmware`, where it is no PE's.
 #[tactic(auto, unfolding(owners::specs::ByOwner::by_owner))]
 pub fn prioritize(
     pes: u16,

@@ -13,7 +13,7 @@ use kinds::number::{NO_WORD, PeNumber};
 use kinds::outcome::ErrorRecord;
 use tables::words::{put, word};
 
-// PE `pe` and every PE below N in `peers` are stopped, as one step. A freeze alone has a vector of zeros.
+/// PE `pe` and every PE below N in `peers` are stopped, as one step. A freeze alone has a vector of zeros.
 #[tactic(auto, using(crate::proofs::Laws::part_within, crate::proofs::Laws::part_length, crate::proofs::Laws::part_froze))]
 pub fn freeze(state: &mut [u64], pes: u64, peers: [u64; 4], pe: PeNumber, error: ErrorRecord)
     ensures { state.new ≡ froze pes peers pe error state.old }
@@ -35,7 +35,7 @@ fn end_of(words: usize, pes: u64) -> usize
 fn freeze_all(state: &mut [u64], peers: [u64; 4], pe: PeNumber, error: ErrorRecord)
     ensures { state.new ≡ froze_all peers pe error state.old }
 {
-    stop(state, pe.0 as usize, error);
+    stop(state, usize::from(pe.0), error);
     if !lists_nobody(peers) {
         stop_peers(state, peers, pe);
     }
@@ -59,12 +59,13 @@ fn stop_peers(state: &mut [u64], peers: [u64; 4], pe: PeNumber)
 }
 
 // The turn of PE k; `is_peer` says whether it is in the vector. PE `pe` in its own vector counts as the failing one.
+// Kept: `is_peer` is handed in; with an `if` at the end of the turn of `stop_peers` the proof leaves the invariant open.
 #[tactic(auto, unfolding(crate::specs::Turn::turned))]
 fn turn(state: &mut [u64], k: usize, is_peer: bool, pe: PeNumber)
     requires { k * state_words < 2 ^ 62 }
     ensures { state.new ≡ turned is_peer pe state.old k }
 {
-    if is_peer && k != pe.0 as usize {
+    if is_peer && k != usize::from(pe.0) {
         stop(state, k, as_peer(pe));
     }
 }

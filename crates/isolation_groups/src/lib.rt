@@ -9,7 +9,7 @@ use endpoints::is_listed;
 use profile::limits::MOST_PES;
 use tables::words;
 
-// Whether a number is that of a member.
+/// Whether a number is that of a member of the group, a bit vector of PEs.
 #[tactic(auto, unfolding(crate::specs::Member::member_of))]
 pub fn is_member(group: &[u64], number: u64) -> bool
     ensures { result ≡ member_of group.now number }
@@ -17,7 +17,7 @@ pub fn is_member(group: &[u64], number: u64) -> bool
     number < MOST_PES && is_listed(group, number as usize)
 }
 
-// Memory word `index` has a mark.
+/// Whether memory word `index` has a mark: its word is there, and is not 0.
 #[tactic(auto, unfolding(crate::specs::Mark::any_mark))]
 pub fn has_mark(marks: &[u64], index: usize) -> bool
     ensures { result ≡ any_mark marks.now index }

@@ -20,11 +20,11 @@ use owners;
 
 // A load or store of a PE, by the PE's stop word; `stopped` is its answer where the PE is MMIO stopped.
 #[tactic(auto, unfolding(profile::specs::Step::accessed))]
-pub(crate) fn access(hit: Option<Hit>, pe: PeNumber, stop: u64, stopped: Answer) -> Answer
+fn access(hit: Option<Hit>, pe: PeNumber, stop: u64, stopped: Answer) -> Answer
     ensures { result ≡ accessed hit pe stop stopped }
 {
     match hit {
-        Some(hit) if stop % 2 != 1 => Answer::Pass {
+        Some(hit) if !endpoints::mmio_stopped(stop) => Answer::Pass {
             address: hit.pci,
             pe,
             words: 0,
@@ -33,7 +33,7 @@ pub(crate) fn access(hit: Option<Hit>, pe: PeNumber, stop: u64, stopped: Answer)
     }
 }
 
-// All ones of a width in bytes, of which a word has at most 8.
+/// All ones of a width in bytes, of which a word has at most 8.
 #[tactic(auto, using(crate::proofs::MmioLaws::ones_fit, crate::proofs::MmioLaws::ones_narrow, crate::proofs::MmioLaws::ones_wide))]
 pub fn ones(width: u64) -> u64
     ensures { result ≡ ones_of (min width 8) }
@@ -45,7 +45,7 @@ pub fn ones(width: u64) -> u64
     }
 }
 
-// The owner of the window decides; `stopped` is the answer where its PE is MMIO stopped.
+/// A load or store, by the owner of its window; `stopped` is the answer where that PE is MMIO stopped. The error is `NoWindow`, where it has none.
 #[tactic(auto, unfolding(owners::specs::ByOwner::by_owner))]
 pub fn access_of(
     pes: u16,

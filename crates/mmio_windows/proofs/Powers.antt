@@ -1,19 +1,19 @@
 -- A power of two by the count of its trailing zeros.
 --     trailing_pow        2 ^ j has j trailing zeros
---     power_is            the code's test is the definition's: x is 2 to the count of its zeros, in the range; power_below, power_above: outside it
+--     power_is            the code's test is the definition's: x is 2 to the count of its zeros, in the range; power_off: outside it
 --     power_of            what a number that passes the test is; wider: in a wider range too
 --     multiple_is         a mask is a remainder by a power
 --     begins-placed, placed-begins    b is a without the rest by n exactly where b is a multiple of n and a is one of the n bytes from b
 --     segment_is          a shift by the exponent less 8 is a quotient by the 256th part of the size
 -- Assumes nothing.
-use Rattle.std.proofs.Common.{◌≡◌, ℕ, zero, suc, ◌+◌, ◌-◌, ◌*◌, ◌/◌, ◌%◌, ◌^◌, ◌<◌, ◌≤◌, true, false, eqb, sym, refl, ap, ◌∙◌, le_of_suc-le-suc, mod-lt, mod-eq_of_lt, pow-suc, arith, pow-add, eq-eqb, eqb-true}
+use Rattle.std.proofs.Common.{◌≡◌, ℕ, zero, suc, ◌+◌, ◌-◌, ◌*◌, ◌/◌, ◌%◌, ◌^◌, ◌<◌, ◌≤◌, Bool, true, false, ◌&&◌, eqb, leb, le-leb, sym, refl, ap, ◌∙◌, le_of_suc-le-suc, mod-lt, mod-eq_of_lt, pow-suc, arith, pow-add, eq-eqb, eqb-true}
 use native.Mathlib.Nat.{div-add-mod, mul-mod_right, mod-le, add-mul-mod_self_left}
 use lib.Bits.{bit_and, and_mask}
 use lib.Count.{count_trailing_zeros}
 use lib.Pow.{shl-shr}
 use borrow.Author.Tests.{eqb-false}
 use Rattle.kinds.proofs.Powers.{one_shl}
-use Rattle.kinds.proofs.Tests.{by_cases, or_cases, or_left, or_right}
+use Rattle.kinds.proofs.Tests.{by_cases, clash, or_cases, or_left, or_right}
 use Rattle.kinds.specs.declared.number.ByteAddress.{ByteAddress}
 use Rattle.profile.specs.Windows.{is_power, segment_of}
 use Rattle.mmio_windows.specs.Size.{Power, WindowSize}
@@ -62,11 +62,8 @@ module _ (least most x : ℕ) (order : least ≤ most) (few : most < 64) where
   outside : (Power least most x → ⊥) → false ≡ is_power least (most - least) x
   outside f = by_cases (is_power least (most - least) x) (λ o. absurd (f (power_of o))) (λ o. sym o)
 
-  pub power_below : count_trailing_zeros 64 x < least → false ≡ is_power least (most - least) x
-  power_below h = outside (λ p. omega (arith, p.low))
-
-  pub power_above : most < count_trailing_zeros 64 x → false ≡ is_power least (most - least) x
-  power_above h = outside (λ p. omega (arith, p.high))
+  pub power_off : {q : Bool} → q ≡ (leb least (count_trailing_zeros 64 x) && leb (count_trailing_zeros 64 x) most) → q ≡ false → q ≡ is_power least (most - least) x
+  power_off e o = o ∙ outside (λ p. clash (sym o ∙ (e ∙ rw (le-leb least (count_trailing_zeros 64 x) p.low, le-leb (count_trailing_zeros 64 x) most p.high))) refl)
 
   pub power_is : least ≤ count_trailing_zeros 64 x → count_trailing_zeros 64 x ≤ most → eqb x (1 * 2 ^ count_trailing_zeros 64 x % 2 ^ 64) ≡ is_power least (most - least) x
   power_is l m =

@@ -54,6 +54,7 @@ fn m32_hit(segments: &[u16], base: u64, size: u64, pci: u64, address: ByteAddres
 }
 
 // M64 window k of the table.
+// Kept: `k < m64_count` in three contracts; a type for k would have the same bound in its invariant, and be made at the one call of `m64_hit`.
 fn m64_at(windows: &[u64], k: usize) -> Window
     requires { k < m64_count }
     ensures { result ≡ window windows.now k }
@@ -68,6 +69,7 @@ fn m64_at(windows: &[u64], k: usize) -> Window
 }
 
 // A window of another mode is closed.
+// Kept: modes as numbers, the table words of the definition, where any other number closes a window.
 fn is_on(mode: u64) -> bool
     ensures { result ≡ (mode == 1 || mode == 2) }
 {
@@ -83,9 +85,7 @@ fn m64_takes(windows: &[u64], k: usize, address: ByteAddress) -> bool
     let row = k * M64_WORDS;
     let mode = words::word(windows, M32_WORDS + (row + 2));
     is_on(mode)
-        && is_placed(
-            M64_LEAST,
-            M64_MOST,
+        && is_placed::<M64_LEAST, M64_MOST>(
             words::word(windows, M32_WORDS + row),
             words::word(windows, M32_WORDS + (row + 1)),
             address,
@@ -104,7 +104,7 @@ fn m64_pe(window: Window, address: ByteAddress) -> u64
     }
 }
 
-// What M64 window k gives, if it takes the address. An M64 window keeps it.
+// What M64 window k gives, if it takes the address: its PCI address is the same one.
 #[tactic(auto, using(crate::proofs::RouteLaws::m64_away, crate::proofs::RouteLaws::m64_there, crate::proofs::RouteLaws::m64_taken))]
 fn m64_hit(windows: &[u64], k: usize, address: ByteAddress) -> Option<Hit>
     requires { k < m64_count }
@@ -120,6 +120,7 @@ fn m64_hit(windows: &[u64], k: usize, address: ByteAddress) -> Option<Hit>
 }
 
 // The first of the M64 windows that takes the address.
+// Kept: by `find_map` the proof did not close.
 #[tactic(auto, using(crate::proofs::RouteLaws::from_hit, crate::proofs::RouteLaws::from_next, crate::proofs::RouteLaws::from_end))]
 fn m64_route(windows: &[u64], address: ByteAddress) -> Option<Hit>
     ensures { result ≡ m64_from windows.now m64_count 0 address }
@@ -132,7 +133,7 @@ fn m64_route(windows: &[u64], address: ByteAddress) -> Option<Hit>
     None
 }
 
-// M32 is asked first.
+/// Where a load or store goes: the PE and the PCI address of the first open window that covers the address, or None. M32 is asked first.
 #[tactic(auto, using(crate::proofs::RouteLaws::route_m32, crate::proofs::RouteLaws::route_m64))]
 pub fn route(windows: &[u64], segments: &[u16], address: ByteAddress) -> Option<Hit>
     ensures { result ≡ route windows.now segments.now address }

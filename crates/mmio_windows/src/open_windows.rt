@@ -14,14 +14,14 @@ const M32_MOST: u32 = 32;
 // The PCI side of M32 ends here at the latest.
 const PCI_END: u64 = 0x1_0000_0000;
 
-// The size is a power of two, from 2^least to 2^most.
-#[tactic(auto, using(crate::proofs::Powers::power_is, crate::proofs::Powers::power_below, crate::proofs::Powers::power_above))]
-fn is_power(least: u32, most: u32, size: u64) -> bool
-    requires { (least ≤ most) × (most < 64) }
-    ensures { result ≡ is_power least (most - least) size }
+// The size is a power of two, from 2^LEAST to 2^MOST.
+#[tactic(auto, using(crate::proofs::Powers::power_is, crate::proofs::Powers::power_off))]
+fn is_power<const LEAST: u32, const MOST: u32>(size: u64) -> bool
+    requires { (LEAST ≤ MOST) × (MOST < 64) }
+    ensures { result ≡ is_power LEAST (MOST - LEAST) size }
 {
     let bits = size.trailing_zeros();
-    least <= bits && bits <= most && size == 1 << bits
+    (LEAST..=MOST).contains(&bits) && size == 1 << bits
 }
 
 // A multiple of a window's size.
@@ -33,15 +33,19 @@ fn is_multiple(value: u64, size: u64) -> bool
     value & (size - 1) == 0
 }
 
-// The size is a power of two from 2^least to 2^most, the base is a multiple of it, and the window covers the address: the base is the address without
+// The size is a power of two from 2^LEAST to 2^MOST, the base is a multiple of it, and the window covers the address: the base is the address without
 // the bits below the size. That is asked first, since it rules most windows out; of a size that is no power of two it says nothing.
 #[tactic(auto, using(crate::proofs::OpenLaws::placed_there, crate::proofs::OpenLaws::placed_away))]
-pub(crate) fn is_placed(least: u32, most: u32, base: u64, size: u64, address: ByteAddress) -> bool
-    requires { (least ≤ most) × (most < 64) }
-    ensures { result ≡ placed least most base size address }
+pub(crate) fn is_placed<const LEAST: u32, const MOST: u32>(
+    base: u64,
+    size: u64,
+    address: ByteAddress,
+) -> bool
+    requires { (LEAST ≤ MOST) × (MOST < 64) }
+    ensures { result ≡ placed LEAST MOST base size address }
 {
     let place = address.0;
-    place - (place & size.wrapping_sub(1)) == base && is_power(least, most, size)
+    place - (place & size.wrapping_sub(1)) == base && is_power::<LEAST, MOST>(size)
 }
 
 // M32 is open and covers the address: the PCI base is a multiple of the size too, and the PCI side ends at or below 2^32.
@@ -49,7 +53,7 @@ pub(crate) fn is_placed(least: u32, most: u32, base: u64, size: u64, address: By
 pub(crate) fn m32_takes(base: u64, size: u64, pci: u64, address: ByteAddress) -> bool
     ensures { result ≡ m32_takes base size pci address }
 {
-    is_placed(M32_LEAST, M32_MOST, base, size, address)
+    is_placed::<M32_LEAST, M32_MOST>(base, size, address)
         && is_multiple(pci, size)
         && pci <= PCI_END - size
 }

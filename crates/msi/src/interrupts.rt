@@ -4,8 +4,7 @@ ghost use Rattle.profile.specs.Msi.{interrupt_in, stored, ranged};
 
 use kinds::number::{NO_PE, PeNumber};
 use kinds::record::Interrupt;
-use profile::limits;
-use profile::limits::HOLDING;
+use profile::limits::{self, HOLDING};
 use tables::words;
 
 // The words of an interrupt.
@@ -14,12 +13,14 @@ const INTERRUPT_WORDS: usize = limits::INTERRUPT_WORDS as usize;
 // A server is below this.
 const SERVERS: u64 = 0x100_0000;
 
-// The bits of a state, 2P + Q.
+/// Bit P of a state, 2P + Q: the interrupt is presented.
 pub const P: u64 = 2;
 
+/// Bit Q of a state: an MSI is held.
 pub const Q: u64 = 1;
 
-// The words of an interrupt; where the table has none it is no PE's.
+/// The words of an interrupt; where the table has none it is no PE's.
+// Kept: no PE is the number that the definition (interrupt_in, pe_at) gives it; an Option would leave each contract with that number again.
 pub fn interrupt_at(interrupts: &[u64], number: u64) -> Interrupt
     ensures { result ≡ interrupt_in interrupts.now number }
 {
@@ -42,7 +43,7 @@ pub fn interrupt_at(interrupts: &[u64], number: u64) -> Interrupt
     }
 }
 
-// Server, priority and state are in their ranges.
+/// Whether server (below 2^24), priority (to 255) and state (to 3) are in their ranges.
 #[tactic(auto, unfolding(profile::specs::Msi::ranged))]
 pub fn in_range(interrupt: Interrupt) -> bool
     ensures { result ≡ ranged interrupt }
@@ -50,7 +51,7 @@ pub fn in_range(interrupt: Interrupt) -> bool
     interrupt.server < SERVERS && interrupt.priority <= HOLDING && interrupt.bits <= P + Q
 }
 
-// Priority and state of an interrupt are written by the PE that it belongs to, and by no other.
+/// Priority and state of an interrupt are written by the PE that it belongs to, and by no other.
 pub fn store(interrupts: &mut [u64], pe: PeNumber, number: u64, priority: u64, bits: u64)
     ensures { interrupts.new ≡ stored pe number priority bits interrupts.old }
 {

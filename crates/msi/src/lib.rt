@@ -24,7 +24,7 @@ fn msi_number<const NUMBERS: u64>(address: ByteAddress, data: u32) -> u64
     u64::from(data % 32) | address.0 / 16 % NUMBERS
 }
 
-// The number of an MSI in the 32-bit window: by address bits 15..4.
+/// The number of an MSI in the 32-bit window: by address bits 15..4.
 #[tactic(auto, unfolding(profile::specs::Msi::number32))]
 pub fn msi_number32(address: ByteAddress, data: u32) -> u64
     ensures { result ≡ number32 address «data» }
@@ -32,7 +32,7 @@ pub fn msi_number32(address: ByteAddress, data: u32) -> u64
     msi_number::<0x1000>(address, data)
 }
 
-// The number of an MSI in the 64-bit window: by address bits 19..4.
+/// The number of an MSI in the 64-bit window: by address bits 19..4.
 #[tactic(auto, unfolding(profile::specs::Msi::number64))]
 pub fn msi_number64(address: ByteAddress, data: u32) -> u64
     ensures { result ≡ number64 address «data» }
@@ -40,7 +40,7 @@ pub fn msi_number64(address: ByteAddress, data: u32) -> u64
     msi_number::<0x1_0000>(address, data)
 }
 
-// A write of 4 bytes at a multiple of 4.
+/// Whether it is a write of 4 bytes at a multiple of 4; `length` is in bytes.
 #[tactic(auto, unfolding(profile::specs::Msi::msi_formed))]
 pub fn msi_formed(direction: Direction, address: ByteAddress, length: u64) -> bool
     ensures { result ≡ msi_formed direction address length }
@@ -56,7 +56,7 @@ fn presented(priority: u64, bits: u64) -> bool
     priority != HOLDING && bits < P
 }
 
-// The outcome of an MSI that arrives: P is set where it is presented, Q where it is held. The other bit stays.
+/// The outcome of an MSI that arrives: P is set where it is presented, Q where it is held. The other bit stays.
 #[tactic(auto, unfolding(profile::specs::Msi::presents, profile::specs::Msi::announced, profile::specs::Msi::arrived))]
 pub fn arrive(number: u64, interrupt: Interrupt) -> Outcome
     ensures { result ≡ arrives number interrupt }
@@ -92,7 +92,7 @@ pub fn arrive(number: u64, interrupt: Interrupt) -> Outcome
     }
 }
 
-// An MSI of a PE, with its number and the words of that interrupt.
+/// An MSI of a PE, with its number and the words of that interrupt. Where the interrupt is not that PE's or a word is out of range, it fails and freezes the PE.
 #[tactic(auto, unfolding(profile::specs::Msi::delivered))]
 pub fn deliver(pe: PeNumber, address: ByteAddress, number: u64, interrupt: Interrupt) -> Outcome
     ensures { result ≡ delivered pe address number interrupt }

@@ -10,7 +10,7 @@ use kinds::answer::{Answer, Reason};
 use kinds::number::{ByteAddress, NO_WORD, PeNumber};
 use kinds::outcome::{Check, Effect, ErrorRecord, Outcome};
 
-// A pass: nothing is changed.
+/// A pass, that changes nothing: `address` is where the bytes are, `words` the count of table words read.
 pub fn passed(pe: PeNumber, address: ByteAddress, words: u64) -> Outcome
     ensures { result ≡ spec.passed pe address words }
 {
@@ -20,21 +20,28 @@ pub fn passed(pe: PeNumber, address: ByteAddress, words: u64) -> Outcome
     }
 }
 
-// A refusal with no table word read, that changes nothing.
+/// The answer of a refusal with no table word read, and none that failed.
+pub fn refusal(reason: Reason) -> Answer
+    ensures { result ≡ refuse reason }
+{
+    Answer::Refuse {
+        reason,
+        words: 0,
+        word: NO_WORD,
+    }
+}
+
+/// A refusal with no table word read, that changes nothing.
 pub fn refused(reason: Reason) -> Outcome
     ensures { result ≡ spec.refused reason }
 {
     Outcome {
-        answer: Answer::Refuse {
-            reason,
-            words: 0,
-            word: NO_WORD,
-        },
+        answer: refusal(reason),
         effect: Effect::Keep,
     }
 }
 
-// A refusal that freezes the PE, alone; `word` is the address of the table word that failed.
+/// A refusal that freezes the PE, alone: `address` is that of the request, `words` the count of table words read, `word` the address of the one that failed.
 pub fn failed(reason: Reason, address: ByteAddress, words: u64, word: ByteAddress) -> Outcome
     ensures { result ≡ spec.failed reason address words word }
 {
@@ -56,7 +63,7 @@ pub fn failed(reason: Reason, address: ByteAddress, words: u64, word: ByteAddres
     }
 }
 
-// Done, with an effect.
+/// Done, with an effect.
 pub fn done(effect: Effect) -> Outcome
     ensures { result ≡ spec.done effect }
 {
@@ -66,19 +73,14 @@ pub fn done(effect: Effect) -> Outcome
     }
 }
 
-// A request that is refused with no table word read.
+/// A request that is refused with no table word read.
 pub fn refuse(reason: Reason) -> Check
     ensures { result ≡ Kept (refuse reason) }
 {
-    let words = 0;
-    Check::Kept(Answer::Refuse {
-        reason,
-        words,
-        word: NO_WORD,
-    })
+    Check::Kept(refusal(reason))
 }
 
-// What is known of a request, or the refusal in its place.
+/// What is known of a request, or the refusal in its place.
 pub fn settled(found: Result<Check, Reason>) -> Check
     ensures { result ≡ spec.settled found }
 {

@@ -13,7 +13,7 @@ use mmio_windows;
 use msi::interrupts;
 use tables::words;
 
-// The PE with this number, or nobody, for the reason given.
+/// The PE with this number. The error is the reason given, where it is not below N.
 #[inline(always)]
 #[tactic(auto, unfolding(profile::specs::Tables::named))]
 pub fn named_pe(reason: Reason, pes: u16, number: u64) -> Result<PeNumber, Reason>
@@ -26,7 +26,7 @@ pub fn named_pe(reason: Reason, pes: u16, number: u64) -> Result<PeNumber, Reaso
     }
 }
 
-// The PE of a requester; `count` is R.
+/// The PE of a requester; `count` is R. The error is `UnknownRequester`, where the requester or its PE is not below R or N.
 #[inline(always)]
 pub fn of_requester(
     pes: u16,
@@ -43,7 +43,7 @@ pub fn of_requester(
     named_pe(Reason::UnknownRequester, pes, pe)
 }
 
-// The PE of an interrupt; `count` is M.
+/// The PE of an interrupt; `count` is M. The error is `BadFirmware`, where the interrupt or its PE is not below M or N.
 #[inline(always)]
 pub fn of_interrupt(
     pes: u16,
@@ -60,7 +60,7 @@ pub fn of_interrupt(
     named_pe(Reason::BadFirmware, pes, interrupt.pe)
 }
 
-// The PE of the window that an address hits.
+/// The PE of the window that an address hits. The error is `NoWindow`, where it hits none or its PE is not below N.
 #[inline(always)]
 pub fn of_hit(pes: u16, hit: Option<Hit>) -> Result<PeNumber, Reason>
     ensures { result ≡ of_hit pes hit }
@@ -69,7 +69,7 @@ pub fn of_hit(pes: u16, hit: Option<Hit>) -> Result<PeNumber, Reason>
     named_pe(Reason::NoWindow, pes, hit.pe)
 }
 
-// The PE that a request belongs to, or the refusal that nobody's gets.
+/// The PE that a request belongs to. The error is the reason that a request is refused for that belongs to no PE.
 // Kept: the tables one by one, as the C interface lends them to its caller, which has no others.
 #[inline(always)]
 #[tactic(auto, unfolding(profile::specs::Owner::owner_in))]

@@ -9,7 +9,7 @@ use kinds::answer::Reason;
 use kinds::record::{Lengths, Sizes};
 use std::marker::Model;
 
-// The tables that no request writes, with N, M and R and the installed size in bytes.
+/// The tables that no request writes, with N, M and R and the installed size in bytes.
 #[derive(Drop)]
 pub struct Tables<'a> {
     pub sizes: Sizes,
@@ -29,7 +29,8 @@ impl<'a> Model for Tables<'a> {
     ghost view = { λ t. record { sizes = t.sizes; installed = t.installed; requesters = t.requesters.now; entries = t.entries.now; peers = t.peers.now; windows = t.windows.now; segments = t.segments.now } };
 }
 
-// The tables that requests write.
+/// The tables that requests write.
+// No Model: one over `&mut` loses what its maker wrote. `seen` gives its value in clauses.
 #[derive(Drop)]
 pub struct Live<'a> {
     pub state: &'a mut [u64],
@@ -37,7 +38,7 @@ pub struct Live<'a> {
 }
 
 impl<'a> Tables<'a> {
-    // The lengths of all lent tables; `memory` is that of memory, in words.
+    /// The lengths of all lent tables, in their own words; `memory` is that of memory, in words of 8 bytes.
     #[inline(always)]
     pub fn lengths(&self, memory: usize, live: &Live<'_>) -> Lengths
         ensures { result ≡ lengths self.now memory (seen live.now) }
@@ -54,7 +55,7 @@ impl<'a> Tables<'a> {
         }
     }
 
-    // N, or reason 1. It does not hold where N, M and R and all lengths are on the table of the profile. `memory` is the length of memory, in words.
+    /// N. The error is reason 1, where N, M, R or a length is not on the table of the profile. `memory` is the length of memory, in words of 8 bytes.
     #[inline(always)]
     pub fn sized_pes(&self, memory: usize, live: &Live<'_>) -> Result<u16, Reason>
         ensures { result ≡ cond (sized self.now.sizes (lengths self.now memory (seen live.now))) (Ok self.now.sizes.pes) (Err TableLength) }

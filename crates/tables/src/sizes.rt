@@ -11,6 +11,7 @@ use profile::limits::{
     MOST_REQUESTERS, PEER_WORDS, SEGMENT_COUNT, STATE_WORDS, WINDOW_WORDS,
 };
 
+/// Whether N, M and R and all lengths are on the table of the profile.
 #[inline(always)]
 #[tactic(auto, using(crate::proofs::SizedLaws::sized_is))]
 pub fn sized(sizes: Sizes, lengths: Lengths) -> bool
@@ -36,11 +37,9 @@ pub(crate) fn pes_of(sizes: Sizes, lengths: Lengths) -> Result<u16, Reason>
 fn in_limits(sizes: Sizes) -> bool
     ensures { result ≡ all (limits sizes) }
 {
-    1 <= sizes.pes
-        && sizes.pes <= MOST_PES
+    (1..=MOST_PES).contains(&sizes.pes)
         && sizes.interrupts <= MOST_INTERRUPTS
-        && 1 <= sizes.requesters
-        && sizes.requesters <= MOST_REQUESTERS
+        && (1..=MOST_REQUESTERS).contains(&sizes.requesters)
 }
 
 #[inline(always)]

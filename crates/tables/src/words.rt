@@ -4,6 +4,7 @@ ghost use Rattle.kinds.specs.Words.{at, pe_at};
 
 use kinds::number::NO_PE;
 
+/// The word at `index`, or 0 where the table has none.
 #[inline(always)]
 pub fn word(table: &[u64], index: usize) -> u64
     ensures { result ≡ at table.now index }
@@ -11,7 +12,7 @@ pub fn word(table: &[u64], index: usize) -> u64
     table.get(index).copied().unwrap_or(0)
 }
 
-// The number of a PE.
+/// The number of a PE at `index`, or `NO_PE`, the definition's number for no PE, where the table has none.
 #[inline(always)]
 pub fn pe_word(table: &[u64], index: usize) -> u64
     ensures { result ≡ pe_at table.now index }
@@ -19,7 +20,7 @@ pub fn pe_word(table: &[u64], index: usize) -> u64
     table.get(index).copied().unwrap_or(NO_PE)
 }
 
-// The number of a PE in a table of 16-bit words.
+/// The number of a PE at `index` of a table of 16-bit words, or `NO_PE` where the table has none.
 // Kept: two functions, each of one line; one over both widths needs a trait whose two bodies are these lines.
 #[inline(always)]
 pub fn short_pe_word(table: &[u16], index: usize) -> u64
@@ -28,6 +29,7 @@ pub fn short_pe_word(table: &[u16], index: usize) -> u64
     table.get(index).map_or(NO_PE, |pe| u64::from(*pe))
 }
 
+/// The word at `index` becomes `value`. Where the table has no such word, nothing is written.
 #[inline(always)]
 pub fn put(table: &mut [u64], index: usize, value: u64)
     ensures { table.new ≡ set table.old index value }

@@ -2,11 +2,11 @@
 use Rattle.decide.proofs.DecideLaws as laws
 use Rattle.decide.proofs.pass_checks.Goals as goal
 
-pub returns-in-Err : goal.returns-in-Err
-returns-in-Err c = search laws.not_sized
+pub returns-in_err-pes : goal.returns-in_err-pes
+returns-in_err-pes c = laws.not_settled _ _ _ _ c.sized_pes.ensures _ c.in_err-pes.was c.from_residual.ensures.1
 
-pub returns-in-Ok : goal.returns-in-Ok
-returns-in-Ok c = search laws.unformed
+pub returns-then-not-is_formed : goal.returns-then-not-is_formed
+returns-then-not-is_formed c = laws.unformed _ _ _ _ c.sized_pes.ensures c.in_ok-pes.was c.is_formed.ensures c.if-not-is_formed.true
 
-pub returns-in-Ok-2 : goal.returns-in-Ok-2
-returns-in-Ok-2 c = search laws.asked_on
+pub returns : goal.returns
+returns c = laws.asked_on _ _ _ _ c.sized_pes.ensures c.in_ok-pes.was c.is_formed.ensures c.if-not-is_formed.false c.is_fenced.ensures c.ask.ensures
