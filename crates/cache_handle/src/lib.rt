@@ -5,7 +5,6 @@
 ghost use Rattle.std.specs.Prelude.{◌≡◌, ◌&&◌, true, cond, eqb, length, Ok, Err};
 ghost use Rattle.cache.specs.Cache.{looked, filled};
 ghost use Rattle.kinds.specs.declared.answer.Reason.TheVariants.{TableLength};
-ghost use Rattle.kinds.specs.Answer.{refuse};
 ghost use Rattle.kinds.specs.declared.outcome.Check.TheVariants.{Walk};
 ghost use Rattle.profile.specs.Step.{finish};
 ghost use Rattle.profile.specs.Tables.{sized, lengths};
@@ -24,7 +23,7 @@ use cache_edits;
 use decide;
 use handle;
 use kinds::answer::{Answer, Reason};
-use kinds::number::{NO_WORD, PeNumber};
+use kinds::number::PeNumber;
 use kinds::outcome::{Check, Outcome};
 use kinds::record::TranslationEntry;
 use kinds::request::{DmaRequest, Operation, Request, Scope};
@@ -121,18 +120,6 @@ fn fitted_pes(
     }
 }
 
-// A refusal with no table word read.
-#[inline(always)]
-fn refuse(reason: Reason) -> Answer
-    ensures { result ≡ refuse reason }
-{
-    Answer::Refuse {
-        reason,
-        words: 0,
-        word: NO_WORD,
-    }
-}
-
 // An edit where reason 1 does not hold; `pes` is N.
 #[inline(always)]
 fn edit(
@@ -169,9 +156,9 @@ pub fn maintain(
     ensures { Operated tables.now (held memory.old (seen live.now) cache.old) (maintained operation) result (held memory.new (seen live.now) cache.new) }
 {
     match fitted_pes(tables, memory.len(), live, cache) {
-        Err(reason) => refuse(reason),
+        Err(reason) => outcomes::refusal(reason),
         Ok(pes) => match operation {
-            Operation::Plain(_) => refuse(Reason::BadRequest),
+            Operation::Plain(_) => outcomes::refusal(Reason::BadRequest),
             Operation::Edit { word, value } => edit(pes, tables, memory, cache, word, value),
             Operation::Invalidate(scope) => invalidate(pes, tables, cache, scope),
         },
