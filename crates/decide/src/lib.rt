@@ -3,7 +3,7 @@
 
 mod forms;
 
-ghost use Rattle.std.specs.Prelude.{◌≡◌, true, length};
+ghost use Rattle.std.specs.Prelude.{◌≡◌, true};
 ghost use Rattle.kinds.specs.Outcome.{settled};
 ghost use Rattle.kinds.specs.Words.{at};
 ghost use Rattle.kinds.specs.declared.outcome.Check.TheVariants.{Kept, Fences};

@@ -1,7 +1,7 @@
 // The freeze of a PE, alone or with its peers: stop bits and error records. Defined in crates/profile/specs/Freeze.antt.
 #![tactic(auto)]
 
-ghost use Rattle.std.specs.Prelude.{◌≡◌, ◌+◌, ◌*◌, ◌^◌, ◌<◌, length};
+ghost use Rattle.std.specs.Prelude.{◌≡◌, ◌+◌, ◌*◌, ◌^◌, ◌<◌};
 ghost use Rattle.kinds.specs.Answer.{reason_number};
 ghost use Rattle.profile.specs.Freeze.{as_peer, froze};
 ghost use Rattle.profile.specs.Tables.{state_words};
