@@ -37,7 +37,7 @@ pub fn drop_page(entries: &[u64], cache: &mut [u64], pe: PeNumber, address: Byte
 {
     let entry = entry_of(entries, pe, address);
     let is_paged = is_paged(entry);
-    let half = half_of(address) as u64;
+    let half = half_of(address);
     let page = page_number(size_of(entry), offset_of(address));
     let key = Key { pe, half, page };
     sweep(cache, |tag, half, page| {
@@ -83,11 +83,12 @@ fn through(
     ensures { result ≡ through (of_entries pes entries.now) memory.now word tag half page }
 {
     let number = tag.saturating_sub(1);
-    if u64::from(pes) <= number || 2 <= half {
-        return false;
+    if number < u64::from(pes) && half < 2 {
+        let entry = entry_of(entries, PeNumber(number as u16), ByteAddress(half << 59));
+        is_paged(entry) && touches(memory, entry, PageNumber(page), word)
+    } else {
+        false
     }
-    let entry = entry_of(entries, PeNumber(number as u16), ByteAddress(half << 59));
-    is_paged(entry) && touches(memory, entry, PageNumber(page), word)
 }
 
 // All slots are looked at: a full one that `named` names, by its first three words, is emptied.

@@ -113,7 +113,7 @@ fn mark_tables(memory: &[u64], tables: &[u64], under: &mut [u64], level: Level)
 }
 
 // A level that has levels below it: marks its words, and `tables` becomes the tables below. The result is the table that the word of the level leads to.
-// Kept: it takes the lists and not the room, by which what `tables` becomes got no proof.
+// Kept: the four lists and not the room: through the room the proof of what `tables` becomes did not close.
 fn mark_upper(
     memory: &[u64],
     marks: &mut [u64],
