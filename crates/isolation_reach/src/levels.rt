@@ -140,8 +140,8 @@ pub(crate) fn mark_levels(room: &mut Room<'_>, bits: u64, gap: Gap, levels: u64,
 {
     table_lists::clear(room.tables);
     let mut table = first;
-    for above in 0..levels {
-        let index = index_of(bits, levels - above, gap.page);
+    for below in (1..=levels).rev() {
+        let index = index_of(bits, below, gap.page);
         let level = Level { bits, table, index };
         table = mark_upper(room.memory, room.marks, room.tables, room.under, level);
     }
