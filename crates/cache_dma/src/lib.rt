@@ -58,9 +58,9 @@ fn place_of(pe: PeNumber, entry: TranslationEntry, address: ByteAddress) -> Plac
     }
 }
 
-// Kept: the parameters of the definition's `reached` and `landed`, side by side; no other function takes all of them.
 // What a DMA comes to by what was found for its page, and the count; `size` is the page size and `offset` that of its address. No memory is lent. The installed size
 // comes first.
+// Kept: the parameters of the definitions `reached` and `landed`, one by one; no other function takes all of them.
 #[inline(always)]
 fn found_by(
     installed: u64,
@@ -77,8 +77,8 @@ fn found_by(
     dma::reached(installed, pe, dma, translated, words)
 }
 
-// Kept: PE, entry and DMA as three, as the definition's check of a walk has them (crates/kinds/src/outcome.rt, `Check::Walk`).
 // The outcome of a hit whose word permits the DMA; without one the page is walked. No memory is lent. The installed size comes first.
+// Kept: PE, entry and DMA as three, as the definition's check of a walk has them (crates/kinds/src/outcome.rt, `Check::Walk`).
 #[inline(always)]
 #[tactic(auto, unfolding(crate::specs::Quick::quick_for, cache::specs::Cache::is_hit, cache::specs::Cache::found_by))]
 pub fn look(

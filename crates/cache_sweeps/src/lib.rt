@@ -2,7 +2,7 @@
 // names a slot in crates/cache/specs/Cache.antt.
 #![tactic(auto)]
 
-ghost use Rattle.std.specs.Prelude.{◌≡◌, ◌*◌, ◌<◌, ℕ, Bool, length};
+ghost use Rattle.std.specs.Prelude.{◌≡◌, ◌*◌, ◌<◌, ℕ, Bool, true, length};
 ghost use Rattle.cache.specs.Cache.{through};
 ghost use Rattle.cache.specs.Slots.{slot_words, Test, dropped, sweep};
 ghost use Rattle.cache_sweeps.specs.Drops.{of_entries, of_pe, of_page, any_slot, its_slots, page_slot};
@@ -46,6 +46,7 @@ pub fn drop_page(entries: &[u64], cache: &mut [u64], pe: PeNumber, address: Byte
 }
 
 // Each slot is emptied whose page is walked through a memory word; `pes` is N.
+// Kept: N, the lists and the word one by one, as the definition `through` takes them.
 pub fn drop_through(pes: u16, entries: &[u64], memory: &[u64], cache: &mut [u64], word: u64)
     ensures { cache.new ≡ sweep (through (of_entries pes entries.now) memory.now word) cache.old }
 {
@@ -97,8 +98,9 @@ fn sweep<F: Fn(u64, u64, u64) -> bool>(cache: &mut [u64], named: F)
     ensures { (d : Test) → ((t h q : ℕ) (r : Bool) → F.post named t h q r → r ≡ d t h q) → cache.new ≡ sweep d cache.old }
 {
     for slot in 0..cache.len().div_ceil(SLOT_WORDS) {
-        let is_dropped = is_dropped(cache, slot, &named);
-        empty(cache, slot, is_dropped);
+        if is_dropped(cache, slot, &named) {
+            empty(cache, slot);
+        }
     }
 }
 
@@ -114,17 +116,15 @@ fn is_dropped<F: Fn(u64, u64, u64) -> bool>(cache: &[u64], slot: usize, named: &
     tag != 0 && named(tag, word(cache, first + 1), word(cache, first + 2))
 }
 
-// A slot is emptied where it is dropped.
+// A slot is emptied.
 #[tactic(auto, unfolding(crate::specs::Turn::cleared))]
-fn empty(cache: &mut [u64], slot: usize, is_dropped: bool)
+fn empty(cache: &mut [u64], slot: usize)
     requires { slot * slot_words < length cache.old }
-    ensures { cache.new ≡ cleared is_dropped cache.old slot }
+    ensures { cache.new ≡ cleared true cache.old slot }
 {
     let first = slot * SLOT_WORDS;
-    if is_dropped {
-        put(cache, first, 0);
-        put(cache, first + 1, 0);
-        put(cache, first + 2, 0);
-        put(cache, first + 3, 0);
-    }
+    put(cache, first, 0);
+    put(cache, first + 1, 0);
+    put(cache, first + 2, 0);
+    put(cache, first + 3, 0);
 }
