@@ -3,15 +3,17 @@
 #![tactic(auto)]
 
 ghost use Rattle.std.specs.Prelude.{◌≡◌};
+ghost use Rattle.kinds.specs.Number.{page_number};
 ghost use Rattle.kinds.specs.declared.outcome.Check.TheVariants.{Walk};
+ghost use Rattle.profile.specs.Entry.{half, offset, page_size};
 ghost use Rattle.profile.specs.Step.{reached, finish};
 ghost use Rattle.profile.specs.Walk.{landed};
 ghost use Rattle.cache.specs.Cache.{is_pass, content, filled};
+ghost use Rattle.cache.specs.Slots.{slot_of};
 ghost use Rattle.cache_dma.specs.Quick.{quick_for};
 ghost use Rattle.cache_dma.specs.Went.{Went};
 
-use cache_slots;
-use cache_slots::Key;
+use cache_slots::{self, Key};
 use dma;
 use dma_entry::addresses;
 use dma_pages::{page_tables, pages};
@@ -23,8 +25,42 @@ use kinds::outcome::Outcome;
 use kinds::record::TranslationEntry;
 use kinds::request::DmaRequest;
 
+// Where the page of a DMA lies: the page size, the offset of its address, and the slot that the rule chooses for its page.
+#[derive(Clone, Copy, Debug, PartialEq, Eq)]
+struct Place {
+    size: PageSize,
+    offset: ByteAddress,
+    key: Key,
+    slot: u8,
+}
+
+// No memory is lent.
+#[inline(always)]
+fn place_of(pe: PeNumber, entry: TranslationEntry, address: ByteAddress) -> Place
+    ensures size { result.size ≡ page_size entry }
+    ensures offset { result.offset ≡ offset address }
+    ensures pe { result.key.pe ≡ pe }
+    ensures half { result.key.half ≡ half address }
+    ensures page { result.key.page ≡ page_number (page_size entry) (offset address) }
+    ensures slot { result.slot ≡ slot_of pe (half address) (page_number (page_size entry) (offset address)) }
+{
+    let size = page_tables::size_of(entry);
+    let offset = addresses::offset_of(address);
+    let half = addresses::half_of(address);
+    let page = pages::page_number(size, offset);
+    let key = Key { pe, half, page };
+    let slot = cache_slots::slot_of(key);
+    Place {
+        size,
+        offset,
+        key,
+        slot,
+    }
+}
+
 // What a DMA comes to by what was found for its page, and the count; `size` is the page size and `offset` that of its address. No memory is lent. The installed size
 // comes first.
+// Kept: the parameters of the definitions `reached` and `landed`, one by one; no other function takes all of them.
 #[inline(always)]
 fn found_by(
     installed: u64,
@@ -42,6 +78,7 @@ fn found_by(
 }
 
 // The outcome of a hit whose word permits the DMA; without one the page is walked. No memory is lent. The installed size comes first.
+// Kept: PE, entry and DMA as three, as the definition's check of a walk has them (crates/kinds/src/outcome.rt, `Check::Walk`).
 #[inline(always)]
 #[tactic(auto, unfolding(crate::specs::Quick::quick_for, cache::specs::Cache::is_hit, cache::specs::Cache::found_by))]
 pub fn look(
@@ -53,16 +90,11 @@ pub fn look(
 ) -> Option<Outcome>
     ensures { result ≡ quick_for installed cache.now pe entry dma }
 {
-    let size = page_tables::size_of(entry);
-    let offset = addresses::offset_of(dma.address);
-    let page = pages::page_number(size, offset);
-    let half = addresses::half_of(dma.address) as u64;
-    let key = Key { pe, half, page };
-    let slot = cache_slots::slot_of(key);
-    if !cache_slots::is_held(cache, slot, key) {
+    let at = place_of(pe, entry, dma.address);
+    if !cache_slots::is_held(cache, at.slot, at.key) {
         return None;
     }
-    let content = cache_slots::word_of(cache, slot);
+    let content = cache_slots::word_of(cache, at.slot);
     if !translate::allows(dma.direction, content) {
         return None;
     }
@@ -70,7 +102,7 @@ pub fn look(
         word: NO_WORD,
         content,
     });
-    let outcome = found_by(installed, pe, dma, size, offset, found, entry.levels);
+    let outcome = found_by(installed, pe, dma, at.size, at.offset, found, entry.levels);
     Some(outcome)
 }
 
@@ -86,10 +118,7 @@ fn is_pass(answer: Answer) -> bool
 fn content_of(found: Result<Frame, WalkError>) -> u64
     ensures { result ≡ content found }
 {
-    match found {
-        Ok(frame) => frame.content,
-        Err(_) => 0,
-    }
+    found.map_or(0, |frame| frame.content)
 }
 
 // The walk, the only reader of memory; the slot of its page is filled where the DMA passes.
@@ -105,17 +134,12 @@ pub fn walk_and_fill(
 ) -> Outcome
     ensures { Went result cache.new (finish installed memory.now (Walk pe entry dma)) (filled installed memory.now cache.old (Walk pe entry dma)) }
 {
-    let size = page_tables::size_of(entry);
-    let offset = addresses::offset_of(dma.address);
-    let page = pages::page_number(size, offset);
-    let walked = walk::walk_page(memory, entry, page);
+    let at = place_of(pe, entry, dma.address);
+    let walked = walk::walk_page(memory, entry, at.key.page);
     let found = walked.found;
-    let outcome = found_by(installed, pe, dma, size, offset, found, walked.words);
+    let outcome = found_by(installed, pe, dma, at.size, at.offset, found, walked.words);
     if is_pass(outcome.answer) {
-        let half = addresses::half_of(dma.address) as u64;
-        let key = Key { pe, half, page };
-        let slot = cache_slots::slot_of(key);
-        cache_slots::fill(cache, slot, key, content_of(found));
+        cache_slots::fill(cache, at.slot, at.key, content_of(found));
     }
     outcome
 }

@@ -17,6 +17,7 @@ use outcomes;
 use tables::words::put;
 
 // The word is written, and each slot whose walk reads it in memory as it was before is emptied. `pes` is N.
+// Kept: N, the lists and the word one by one, as the clause `Edited` has them.
 pub fn edit(
     pes: u16,
     entries: &[u64],

@@ -2,7 +2,7 @@
 // names a slot in crates/cache/specs/Cache.antt.
 #![tactic(auto)]
 
-ghost use Rattle.std.specs.Prelude.{◌≡◌, ◌*◌, ◌<◌, ℕ, Bool, length};
+ghost use Rattle.std.specs.Prelude.{◌≡◌, ◌*◌, ◌<◌, ℕ, Bool, true, length};
 ghost use Rattle.cache.specs.Cache.{through};
 ghost use Rattle.cache.specs.Slots.{slot_words, Test, dropped, sweep};
 ghost use Rattle.cache_sweeps.specs.Drops.{of_entries, of_pe, of_page, any_slot, its_slots, page_slot};
@@ -37,7 +37,7 @@ pub fn drop_page(entries: &[u64], cache: &mut [u64], pe: PeNumber, address: Byte
 {
     let entry = entry_of(entries, pe, address);
     let is_paged = is_paged(entry);
-    let half = half_of(address) as u64;
+    let half = half_of(address);
     let page = page_number(size_of(entry), offset_of(address));
     let key = Key { pe, half, page };
     sweep(cache, |tag, half, page| {
@@ -46,6 +46,7 @@ pub fn drop_page(entries: &[u64], cache: &mut [u64], pe: PeNumber, address: Byte
 }
 
 // Each slot is emptied whose page is walked through a memory word; `pes` is N.
+// Kept: N, the lists and the word one by one, as the definition `through` takes them.
 pub fn drop_through(pes: u16, entries: &[u64], memory: &[u64], cache: &mut [u64], word: u64)
     ensures { cache.new ≡ sweep (through (of_entries pes entries.now) memory.now word) cache.old }
 {
@@ -83,11 +84,12 @@ fn through(
     ensures { result ≡ through (of_entries pes entries.now) memory.now word tag half page }
 {
     let number = tag.saturating_sub(1);
-    if u64::from(pes) <= number || 2 <= half {
-        return false;
+    if number < u64::from(pes) && half < 2 {
+        let entry = entry_of(entries, PeNumber(number as u16), ByteAddress(half << 59));
+        is_paged(entry) && touches(memory, entry, PageNumber(page), word)
+    } else {
+        false
     }
-    let entry = entry_of(entries, PeNumber(number as u16), ByteAddress(half << 59));
-    is_paged(entry) && touches(memory, entry, PageNumber(page), word)
 }
 
 // All slots are looked at: a full one that `named` names, by its first three words, is emptied.
@@ -96,8 +98,9 @@ fn sweep<F: Fn(u64, u64, u64) -> bool>(cache: &mut [u64], named: F)
     ensures { (d : Test) → ((t h q : ℕ) (r : Bool) → F.post named t h q r → r ≡ d t h q) → cache.new ≡ sweep d cache.old }
 {
     for slot in 0..cache.len().div_ceil(SLOT_WORDS) {
-        let is_dropped = is_dropped(cache, slot, &named);
-        empty(cache, slot, is_dropped);
+        if is_dropped(cache, slot, &named) {
+            empty(cache, slot);
+        }
     }
 }
 
@@ -113,17 +116,15 @@ fn is_dropped<F: Fn(u64, u64, u64) -> bool>(cache: &[u64], slot: usize, named: &
     tag != 0 && named(tag, word(cache, first + 1), word(cache, first + 2))
 }
 
-// A slot is emptied where it is dropped.
+// A slot is emptied.
 #[tactic(auto, unfolding(crate::specs::Turn::cleared))]
-fn empty(cache: &mut [u64], slot: usize, is_dropped: bool)
+fn empty(cache: &mut [u64], slot: usize)
     requires { slot * slot_words < length cache.old }
-    ensures { cache.new ≡ cleared is_dropped cache.old slot }
+    ensures { cache.new ≡ cleared true cache.old slot }
 {
     let first = slot * SLOT_WORDS;
-    if is_dropped {
-        put(cache, first, 0);
-        put(cache, first + 1, 0);
-        put(cache, first + 2, 0);
-        put(cache, first + 3, 0);
-    }
+    put(cache, first, 0);
+    put(cache, first + 1, 0);
+    put(cache, first + 2, 0);
+    put(cache, first + 3, 0);
 }

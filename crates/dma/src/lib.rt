@@ -21,8 +21,7 @@ use kinds::number::{ByteAddress, NO_WORD, PeNumber};
 use kinds::outcome::{Check, Outcome};
 use kinds::record::TranslationEntry;
 use kinds::request::{AddressClass, DmaRequest};
-use msi;
-use msi::interrupts;
+use msi::{self, interrupts};
 use outcomes;
 use tables::lent::{Live, Tables};
 
@@ -76,6 +75,7 @@ fn outcome_of(
 }
 
 // The same, after the last test.
+// Kept: the parameters of the definition's `reached`, one by one; `unwalked` hands them on.
 #[inline(always)]
 pub fn reached(
     installed: u64,
@@ -151,6 +151,7 @@ fn by_class(tables: &Tables<'_>, live: &Live<'_>, pe: PeNumber, dma: DmaRequest)
             let entry = addresses::entry_of(tables.entries, pe, address);
             by_entry(tables.installed, entry, pe, dma)
         }
+        // Kept: the two arms of MSI differ in the function of the number alone, as those of the definition's `served` do.
         AddressClass::Msi32 => {
             let number = msi::msi_number32(address, dma.data);
             Check::Ready(pe, deliver(count, live.interrupts, pe, dma, number))
@@ -185,6 +186,7 @@ pub fn check_dma(
 }
 
 // A DMA of a PE by the walk of its page: the only reader of memory. The installed size comes first.
+// Kept: PE, entry and DMA as three, as the definition's check of a walk has them (crates/kinds/src/outcome.rt, `Check::Walk`).
 #[inline(always)]
 #[tactic(auto, unfolding(profile::specs::Step::finish))]
 pub fn finish_walk(

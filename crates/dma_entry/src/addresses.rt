@@ -50,10 +50,10 @@ pub fn offset_of(address: ByteAddress) -> ByteAddress
 
 // Bit 59 of an address: 0 picks the first record of a PE, 1 the second.
 #[inline(always)]
-pub fn half_of(address: ByteAddress) -> usize
+pub fn half_of(address: ByteAddress) -> u64
     ensures { result ≡ half address }
 {
-    ((address.0 >> 59) % 2) as usize
+    (address.0 >> 59) % 2
 }
 
 // The record of a PE that an address picks. A word that the table does not have is 0.
@@ -61,7 +61,7 @@ pub fn half_of(address: ByteAddress) -> usize
 pub fn entry_of(entries: &[u64], pe: PeNumber, address: ByteAddress) -> TranslationEntry
     ensures { result ≡ entry_in entries.now pe (half address) }
 {
-    let first = usize::from(pe.0) * ENTRY_WORDS + half_of(address) * RECORD_WORDS;
+    let first = usize::from(pe.0) * ENTRY_WORDS + half_of(address) as usize * RECORD_WORDS;
     TranslationEntry {
         base: word(entries, first),
         levels: word(entries, first + 1),

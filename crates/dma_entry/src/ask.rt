@@ -14,6 +14,7 @@ const MOST_UNITS: u64 = 0x8_0000_0000;
 // The way of an offset by an entry: the page table is walked, or the offset is the system address.
 #[derive(Clone, Copy, Debug, PartialEq, Eq)]
 pub enum Way {
+    // Kept: the page size, which the definition `asked_pages` gives, though no caller reads it.
     Walk(PageSize),
     Bypass,
 }
@@ -24,7 +25,7 @@ pub enum Way {
 pub fn ask(entry: TranslationEntry, offset: ByteAddress) -> Result<Way, Reason>
     ensures { result ≡ asked entry offset }
 {
-    if entry.table < 1 || MOST_TABLE_CODE < entry.table {
+    if !(1..=MOST_TABLE_CODE).contains(&entry.table) {
         return Err(Reason::BadEntry);
     }
     if entry.page == 0 {
@@ -46,6 +47,7 @@ fn ask_bypass(entry: TranslationEntry, offset: ByteAddress) -> Result<Way, Reaso
         return Err(Reason::BadEntry);
     }
     let unit = offset.0 >> 24;
+    // Kept: two comparisons, since the proof did not close with `contains` of a range.
     if start <= unit && unit < end {
         Ok(Way::Bypass)
     } else {

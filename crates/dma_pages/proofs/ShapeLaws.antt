@@ -1,5 +1,5 @@
 -- The shape of a page table. Assumes nothing.
-use mathlib.Core.Path.{◌≡◌, refl, sym, ◌∙◌}
+use mathlib.Core.Path.{◌≡◌, refl, ◌∙◌}
 use mathlib.Core.Bool.{Bool, true, false, cond, ◌||◌}
 use Prim.Native.Nat.{ℕ, ◌+◌, ◌-◌, ◌*◌, ◌%◌, ◌^◌, ◌≤◌, ◌<◌}
 use native.Mathlib.Nat.{mod-eq_of_lt, lt_of_lt_of_le}
@@ -10,6 +10,7 @@ use lib.Pow.{pow_pos, pow_mono}
 use borrow.Author.Tests.{lt-leb, le-leb}
 use borrow.Author.Tests.{eqb-true}
 use Rattle.std.specs.Prelude.{Some, None, Result, Ok, Err}
+use Rattle.std.specs.Result.{result_ok}
 use Rattle.kinds.specs.Number.{page_bits}
 use Rattle.kinds.specs.Codes.{size_of, unnamed}
 use Rattle.kinds.specs.declared.number.Unnamed.{Unnamed}
@@ -53,12 +54,16 @@ unknown_page e z =
     (λ t. let y = sized (eqb e.page 1) (eqb e.page 5) (eqb e.page 13) (eqb e.page 17) t in cc)
     (λ t. t)
 
--- `shape_of`: the last tests
-module _ (e : TranslationEntry) (small : e.table ≤ most_table_code) (some : 1 ≤ e.levels) (few : e.levels ≤ most_levels) {r : Result PageSize Unnamed} (asks : r ≡ size_of e.page)
-    {s : PageSize} (is : r ≡ Ok s) {b : ℕ} (bits : b ≡ page_bits s) where
-  z : Ok s ≡ size_of e.page
-  z = sym is ∙ asks
+was_ok : (r : Result PageSize Unnamed) {s : PageSize} → Some s ≡ result_ok r → Ok s ≡ r
+was_ok (Ok x) y = cc
+was_ok (Err x) y = cc
 
+pub sized-by : (e : TranslationEntry) {r : Result PageSize Unnamed} → r ≡ size_of e.page → {s : PageSize} → Some s ≡ result_ok r → Ok s ≡ size_of e.page
+sized-by e {r} asks is = was_ok r is ∙ asks
+
+-- `shape_of`: the last tests
+module _ (e : TranslationEntry) (small : e.table ≤ most_table_code) (some : 1 ≤ e.levels) (few : e.levels ≤ most_levels)
+    {s : PageSize} (z : Ok s ≡ size_of e.page) {b : ℕ} (bits : b ≡ page_bits s) where
   span-is : span e ≡ b + e.levels * (e.table + code_bits)
   unfolding span
   span-is = rw ((known_page e z).1, bits)

@@ -23,10 +23,11 @@ pub struct Shape {
 pub fn aligned(bits: u64, base: ByteAddress) -> bool
     ensures { result ≡ aligned bits base }
 {
-    if MOST_BITS < bits {
-        return base.0 == 0;
+    if bits <= MOST_BITS {
+        base.0 & ((8u64 << bits) - 1) == 0
+    } else {
+        base.0 == 0
     }
-    base.0 & ((8u64 << bits) - 1) == 0
 }
 
 // The page size of an entry; of a page code that is not known it is 256 MiB.
@@ -56,9 +57,8 @@ pub fn is_walkable(entry: TranslationEntry) -> bool
 pub fn shape_of(entry: TranslationEntry) -> Option<Shape>
     ensures { result ≡ shape_of entry }
 {
-    let Ok(size) = PageSize::try_from(entry.page) else {
-        return None;
-    };
+    let size = PageSize::try_from(entry.page).ok()?;
+    // Kept: two comparisons, since the proof did not close with `contains` of a range.
     if entry.table > MOST_TABLE_CODE || entry.levels < 1 || entry.levels > MOST_LEVELS {
         return None;
     }

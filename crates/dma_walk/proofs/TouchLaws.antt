@@ -3,7 +3,7 @@ use Rattle.kinds.specs.Lookup.{Found}
 use mathlib.Core.Path.{◌≡◌, refl, sym, ◌∙◌}
 use mathlib.Core.Bool.{true, false}
 use mathlib.Core.List.{List, [], ◌∷◌}
-use Prim.Native.Nat.{ℕ, zero, suc, ◌+◌, ◌-◌, ◌≤◌, ◌<◌}
+use Prim.Native.Nat.{ℕ, zero, suc, ◌-◌, ◌≤◌, ◌<◌}
 use native.Mathlib.Omega.{arith}
 use lib.Dec.{ltb, eqb}
 use lib.ListN.{length}
@@ -17,7 +17,6 @@ use Rattle.profile.specs.Entry.{aligned}
 use Rattle.profile.specs.Walk.{place, next_base, leads, turn, walk_from, walk, walked_page}
 use Rattle.profile.specs.Walk as definition
 use Rattle.profile.proofs.WalkLaws.{walk_suc}
-use Rattle.dma_walk.proofs.LoopLaws.{read_next}
 use Rattle.dma_walk.specs.declared.walk.Walked.{Walked}
 use Rattle.dma_walk.specs.Turn.{Level, ends, next, stepped}
 use Rattle.dma_walk.proofs.TurnLaws.{step-base, step-aligned}
@@ -104,29 +103,9 @@ module _ (m : List ℕ) (q : PageNumber) (n top l k : ℕ) (first base : ByteAdd
       pub ended : {f : Found} {c : ℕ} → x ≡ ends f c → false ≡ has k (walk_from m top n first q).reads
       ended {f} {c} z = sym (same ∙ level some ∙ ended_is m (l - 1) n base q k elsewhere f c (sym e ∙ z))
 
+      pub ended_by : {w : Walked} → x ≡ Err w → false ≡ has k (walk_from m top n first q).reads
+      ended_by z = ended z
+
   pub done : l ≤ 0 → false ≡ has k (walk_from m top n first q).reads
   unfolding walk_from has
   done none = let z : l ≡ 0 = omega arith in sym (same ∙ rw z)
-
--- the same, the levels that are left being those after the words read
-module _ (m : List ℕ) (q : PageNumber) (n top read k : ℕ) (first base : ByteAddress)
-    (same : has k (walk_from m top n first q).reads ≡ has k (walk_from m (top - read) n base q).reads) where
-  module _ (some : read < top) {p : ℕ} (here : p ≡ place (top - read - 1) n base q) where
-    left : 0 < top - read
-    left = omega arith
-
-    pub read-here : p ≡ k → ltb p (length m) ≡ has k (walk_from m top n first q).reads
-    read-here e = found_here m q n top (top - read) k first base same left here e
-
-    module _ (away : p ≡ k → ⊥) {x : Level} (e : x ≡ stepped m (top - read - 1) n base q) where
-      pub read_lower : {b : ByteAddress} → x ≡ Ok b → has k (walk_from m top n first q).reads ≡ has k (walk_from m (top - (read + 1)) n b q).reads
-      read_lower z = rw (← read_next top read) (lower m q n top (top - read) k first base same left here away e z)
-
-      pub read-aligned : {b : ByteAddress} → x ≡ Ok b → aligned n b ≡ true
-      read-aligned z = lower-aligned m q n top (top - read) k first base same left here away e z
-
-      pub read_ended : {w : Walked} → x ≡ Err w → false ≡ has k (walk_from m top n first q).reads
-      read_ended z = ended m q n top (top - read) k first base same left here away e z
-
-  pub read_done : top ≤ read → read ≤ top → false ≡ has k (walk_from m top n first q).reads
-  read_done h _ = done m q n top (top - read) k first base same (omega arith)

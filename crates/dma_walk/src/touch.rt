@@ -27,8 +27,7 @@ fn reads_word(memory: &[u64], entry: TranslationEntry, page: PageNumber, word: u
 {
     let bits = entry.table + CODE_BITS;
     let mut base = ByteAddress(entry.base);
-    for read in 0..entry.levels {
-        let below = entry.levels - read - 1;
+    for below in (0..entry.levels).rev() {
         let at = place(below, bits, base, page);
         if at as u64 == word {
             return at < memory.len();

@@ -19,7 +19,7 @@ pub struct Walked {
 }
 
 // The number of the memory word that a page has in the table at `base`, with `below` levels below it.
-// Kept: `bits` and `base` are two numbers; a struct that holds what is known of them would be built anew at each level, for its base alone.
+// Kept: `bits` and `base` are two numbers, their bounds in the contracts; a struct for `bits` alone is no plainer, and one for both would be built anew at each level.
 #[inline(always)]
 #[tactic(auto, using(crate::proofs::StepLaws::placed))]
 pub(crate) fn place(below: u64, bits: u64, base: ByteAddress, page: PageNumber) -> usize

@@ -31,15 +31,13 @@ module _ (e : TranslationEntry) {b : Bool} (asked : b ≡ paged e) (o : b ≡ tr
 
 -- ---- the levels
 
--- `above` levels are done, in a room with memory k
-module _ (m : List ℕ) (n q c l f : ℕ) (s : List ℕ) (above : ℕ) (t : List ℕ) (x : ℕ) (r : List ℕ)
-    (same : marks_from m n q c l (replicate (length m) 0) f s ≡ marks_from m n q c (l - above) t x r) (k : List ℕ) (memory : k ≡ m) where
-  pub levels_next : {i y : ℕ} {u p : List ℕ} → above < l → i ≡ index_of n (l - above) q → p ≡ marked_in (length k) t n x i 0 r → u ≡ tables_under k t n x i
-      → y ≡ leads_to k n (x + i) → marks_from m n q c l (replicate (length m) 0) f s ≡ marks_from m n q c (l - (above + 1)) u y p
-  levels_next h i g v e =
-      let less : l - above - 1 ≡ l - (above + 1) = omega arith in
-      same ∙ marks_suc m n q c (l - above) t x r (omega arith) ∙ rw (← memory, ← i, ← g, ← v, ← e, less)
+-- `below` levels are left, in a room with memory k
+module _ (m : List ℕ) (n q c l f : ℕ) (s : List ℕ) (below : ℕ) (t : List ℕ) (x : ℕ) (r : List ℕ)
+    (same : marks_from m n q c l (replicate (length m) 0) f s ≡ marks_from m n q c below t x r) (k : List ℕ) (memory : k ≡ m) where
+  pub levels_next : {i y : ℕ} {u p : List ℕ} → 1 ≤ below → i ≡ index_of n below q → p ≡ marked_in (length k) t n x i 0 r → u ≡ tables_under k t n x i
+      → y ≡ leads_to k n (x + i) → marks_from m n q c l (replicate (length m) 0) f s ≡ marks_from m n q c (below - 1) u y p
+  levels_next h i g v e = same ∙ marks_suc m n q c below t x r h ∙ rw (← memory, ← i, ← g, ← v, ← e)
 
-  pub levels_done : {i : ℕ} {p : List ℕ} → l ≤ above → i ≡ index_of n 0 q → p ≡ marked_in (length k) t n x i c r
+  pub levels_done : {i : ℕ} {p : List ℕ} → below < 1 → i ≡ index_of n 0 q → p ≡ marked_in (length k) t n x i c r
       → p ≡ marks_from m n q c l (replicate (length m) 0) f s
-  levels_done h i g = sym (same ∙ marks_zero m n q c (l - above) t x r (omega arith) ∙ rw (← memory, ← i, ← g))
+  levels_done h i g = sym (same ∙ marks_zero m n q c below t x r (omega arith) ∙ rw (← memory, ← i, ← g))

@@ -16,12 +16,12 @@ use table_lists;
 // An address that picks the second record of a PE.
 const SECOND: u64 = 0x800_0000_0000_0000;
 
-// Marks the words that walks by record `number` of PE `pe` read; `address` picks it.
-fn mark_record(room: &mut Room<'_>, entries: &[u64], pe: u16, address: ByteAddress, number: u64)
-    ensures { Marked room.old room.new (marks_by room.old.memory.now (entry_in entries.now (record { 0 = pe }) (half address)) number room.old.marks.now) }
+// Marks the words that walks by the record of PE `pe` that `address` picks read.
+fn mark_record(room: &mut Room<'_>, entries: &[u64], pe: u16, address: ByteAddress)
+    ensures { Marked room.old room.new (marks_by room.old.memory.now (entry_in entries.now (record { 0 = pe }) (half address)) (half address) room.old.marks.now) }
 {
     let entry = addresses::entry_of(entries, PeNumber(pe), address);
-    marks::mark_entry(room, entry, number);
+    marks::mark_entry(room, entry, addresses::half_of(address));
 }
 
 // Marks the words that walks of PE `pe` read, if it is a member.
@@ -30,8 +30,8 @@ fn mark_pe(room: &mut Room<'_>, group: &[u64], entries: &[u64], pe: u16)
     ensures { Marked room.old room.new (pe_turn group.now entries.now room.old.memory.now room.old.marks.now pe) }
 {
     if isolation_groups::is_member(group, u64::from(pe)) {
-        mark_record(room, entries, pe, ByteAddress(0), 0);
-        mark_record(room, entries, pe, ByteAddress(SECOND), 1);
+        mark_record(room, entries, pe, ByteAddress(0));
+        mark_record(room, entries, pe, ByteAddress(SECOND));
     }
 }
 
@@ -58,6 +58,7 @@ fn mark_and_clear(room: &mut Room<'_>, pes: u16, group: &[u64], entries: &[u64])
 
 // Marks the words that walks of members read, and no others. `tables` and `under` are room to work in and become 0; nothing is marked where they have not
 // the length of memory.
+// Kept: the lists one by one, since `celltimber_covers` hands in those of C, of any lengths; `Room` begins where the lengths are tested.
 #[tactic(auto, unfolding(crate::specs::Footprint::members_marks, crate::specs::Footprint::room_after))]
 pub fn mark_members(
     pes: u16,

@@ -113,7 +113,7 @@ fn mark_tables(memory: &[u64], tables: &[u64], under: &mut [u64], level: Level)
 }
 
 // A level that has levels below it: marks its words, and `tables` becomes the tables below. The result is the table that the word of the level leads to.
-// Kept: it takes the lists and not the room, by which what `tables` becomes got no proof.
+// Kept: the four lists and not the room: through the room the proof of what `tables` becomes did not close.
 fn mark_upper(
     memory: &[u64],
     marks: &mut [u64],
@@ -140,8 +140,8 @@ pub(crate) fn mark_levels(room: &mut Room<'_>, bits: u64, gap: Gap, levels: u64,
 {
     table_lists::clear(room.tables);
     let mut table = first;
-    for above in 0..levels {
-        let index = index_of(bits, levels - above, gap.page);
+    for below in (1..=levels).rev() {
+        let index = index_of(bits, below, gap.page);
         let level = Level { bits, table, index };
         table = mark_upper(room.memory, room.marks, room.tables, room.under, level);
     }

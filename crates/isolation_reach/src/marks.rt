@@ -7,6 +7,7 @@ ghost use Rattle.isolation_reach.specs.Room.{Marked};
 use crate::levels;
 use crate::room::Room;
 use dma_pages::page_tables::is_paged;
+use kinds::number::PageSize;
 use kinds::record::TranslationEntry;
 use profile::limits::CODE_BITS;
 
@@ -49,9 +50,9 @@ fn gap_of(entry: TranslationEntry, half: u64) -> Gap
     requires { (entry.table ≤ most_table_code) × (index_bits entry * entry.levels ≤ offset_bits) }
     ensures { result ≡ gap_of entry half }
 {
-    match (half, entry.page) {
-        (0, 1) => gap_at(entry, MSI_PAGE_4K, MSI_PAGES_4K),
-        (0, 5) => gap_at(entry, MSI_PAGE_64K, MSI_PAGES_64K),
+    match (half, PageSize::try_from(entry.page)) {
+        (0, Ok(PageSize::K4)) => gap_at(entry, MSI_PAGE_4K, MSI_PAGES_4K),
+        (0, Ok(PageSize::K64)) => gap_at(entry, MSI_PAGE_64K, MSI_PAGES_64K),
         _ => NO_GAP,
     }
 }

@@ -1,4 +1,5 @@
 // What the functions that Rust and C call do: numbers and slices only.
+// Kept: each function takes its numbers and lists one by one, as the C interface has them (crates/isolation_tests_c).
 ghost use Rattle.std.specs.Prelude.{◌≡◌};
 ghost use Rattle.cache_words.specs.Operations.{decoded_operation};
 ghost use Rattle.edits.specs.Edits.{scope_owner};
@@ -94,6 +95,7 @@ pub fn celltimber_closed(pes: u64, peers: &[u64], group: &[u64]) -> u64
 }
 
 // N is within its limit, and `marks`, `tables` and `under` have the length of memory.
+// Kept: the lists of `celltimber_covers` as C hands them in; their lengths are known after this test alone.
 #[tactic(auto, unfolding(crate::specs::Covers::coverable))]
 fn is_coverable(pes: u64, marks: &[u64], tables: &[u64], under: &[u64], memory: &[u64]) -> bool
     ensures { result ≡ coverable pes marks.now tables.now under.now memory.now }

@@ -3,8 +3,7 @@ ghost use Rattle.std.specs.Prelude.{◌≡◌};
 ghost use Rattle.isolation_tests.specs.Seen.{interrupt_seen, state_seen, seen};
 
 use isolation_groups::{has_mark, is_member};
-use profile::limits;
-use profile::limits::{ENTRY_WORDS, STATE_WORDS};
+use profile::limits::{self, ENTRY_WORDS, STATE_WORDS};
 use tables::words;
 
 // The tables of which not every word is public.
@@ -39,6 +38,8 @@ fn state_seen(group: &[u64], pes: u64, index: usize) -> bool
     pe == pes && index as u64 % STATE_WORDS == 0 || is_member(group, pe)
 }
 
+// Word `index` of a table is public or the group's; `pes` is N.
+// Kept: the number of the table and the lists come from C, as `celltimber_seen` has them.
 #[tactic(auto, unfolding(crate::specs::Seen::seen))]
 pub(crate) fn is_seen(
     group: &[u64],

@@ -38,16 +38,16 @@ pub fn write_answer(answers: &mut [u64], k: usize, answer: Answer)
     ensures { answers.new ≡ written_in answers.old k answer }
 {
     if k < answers.len() / layout::ANSWER_WORDS {
-        let x = Numbers::from(answer);
+        let numbers = Numbers::from(answer);
         let at = k * layout::ANSWER_WORDS;
         // Kept: by index, since `copy_from_slice` of the eight words takes 30 instructions more.
-        answers[at] = x.name;
-        answers[at + 1] = x.reason;
-        answers[at + 2] = x.value;
-        answers[at + 3] = x.words;
-        answers[at + 4] = x.pe;
-        answers[at + 5] = x.server;
-        answers[at + 6] = x.priority;
-        answers[at + 7] = x.word;
+        answers[at] = numbers.name;
+        answers[at + 1] = numbers.reason;
+        answers[at + 2] = numbers.value;
+        answers[at + 3] = numbers.words;
+        answers[at + 4] = numbers.pe;
+        answers[at + 5] = numbers.server;
+        answers[at + 6] = numbers.priority;
+        answers[at + 7] = numbers.word;
     }
 }

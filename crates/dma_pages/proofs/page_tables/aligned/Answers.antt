@@ -2,11 +2,11 @@
 use Rattle.dma_pages.proofs.ShapeLaws as laws
 use Rattle.dma_pages.proofs.page_tables.aligned.Goals as goal
 
-pub returns-then-bits-gt-MOST_BITS : goal.returns-then-bits-gt-MOST_BITS
-returns-then-bits-gt-MOST_BITS c = search laws.at_zero
+pub returns-else-bits-le-MOST_BITS : goal.returns-else-bits-le-MOST_BITS
+returns-else-bits-le-MOST_BITS c = search laws.at_zero
 
 pub overflow_sub-result : goal.overflow_sub-result
 overflow_sub-result c = search laws.table-bytes
 
-pub returns : goal.returns
-returns c = search laws.multiple
+pub returns-then-bits-le-MOST_BITS : goal.returns-then-bits-le-MOST_BITS
+returns-then-bits-le-MOST_BITS c = search laws.multiple

@@ -6,13 +6,13 @@ use Rattle.dma_walk.proofs.TouchLaws as laws
 use Rattle.dma_walk.proofs.touch.reads_word.Goals as goal
 
 pub returns-then-at-word : goal.returns-then-at-word
-returns-then-at-word c = search laws.read-here
+returns-then-at-word c = search laws.found_here
 
-pub loop-read-preserved : goal.loop-read-preserved
-loop-read-preserved c = search (rules, loop.shift_next, laws.read-aligned, laws.read_lower)
+pub loop-below-preserved : goal.loop-below-preserved
+loop-below-preserved c = search (rules, loop.shift_less, laws.lower-aligned, laws.lower)
 
 pub returns-in-Err : goal.returns-in-Err
-returns-in-Err c = search laws.read_ended
+returns-in-Err c = search laws.ended_by
 
 pub returns : goal.returns
-returns c = search laws.read_done
+returns c = search laws.done
