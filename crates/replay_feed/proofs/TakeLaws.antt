@@ -1,5 +1,6 @@
 -- What the functions over the bytes of an input cite.
---     keep_start, keep_byte, keep_over, keep_feed, keep_done      the bytes of a line: what is kept from the start is what is kept from here
+--     before_is           the bytes before the first line feed
+--     keeps               they are kept, as many as there is room for
 --     moved_feed, moved_all               a line feed, and an input that ended before one
 --     end_length, end_feed                the end of the input
 --     Here, run_start, run_within, run_more, run_less, run_done   the lines of an input: the run from the start is the run from here, i bytes later
@@ -7,14 +8,15 @@
 use mathlib.Core.Path.{◌≡◌, refl, sym, ap, subst, ◌∙◌}
 use mathlib.Core.Bool.{Bool, true, false, cond}
 use mathlib.Core.List.{List, [], ◌∷◌}
-use Prim.Native.Nat.{ℕ, suc, ◌+◌, ◌-◌, ◌≤◌, ◌<◌}
+use Prim.Native.Nat.{ℕ, zero, suc, ◌+◌, ◌-◌, ◌≤◌, ◌<◌, min}
 use native.Mathlib.Nat.{add-zero, zero-add, add_assoc, add-suc, suc-add}
 use native.Mathlib.Numerals.{add-one}
 use native.Mathlib.Omega.{arith}
 use lib.Dec.{eqb, ltb}
 use lib.ListN.{length, take, drop, get_or, set, length-set, drop_of_length-le, length-drop}
-use lib.Seq.{drop-cons, drop-drop, get_or-drop}
-use borrow.Author.Tests.{ne_eqb, lt-ltb, le-ltb, eqb-true, eq-eqb, le-leb, ltb-true}
+use lib.Seq.{drop-cons, drop-drop, get_or-drop, take-take, length-take-le}
+use borrow.Rule.Slice.PartMut.{put_mid}
+use borrow.Author.Tests.{lt-ltb, le-ltb, eqb-true, eq-eqb, le-leb, ltb-true}
 use Rattle.replay_text.specs.Bytes.{line_feed}
 use Rattle.kinds.proofs.Tests.{by_cases, clash}
 use Rattle.replay_session.specs.EndPromise.{EndedTo}
@@ -29,47 +31,70 @@ use Rattle.replay_feed.specs.Feed.{Buffer, kept, kept_all, buffer_of, with_buffe
 use Rattle.replay_feed.proofs.FeedLaws.{in_text}
 use Rattle.replay_feed.specs.Promise.{KeptTo, MovedTo, moved_by, FedResult, FedAs}
 use Rattle.replay_feed.specs.declared.Unfit.{Unfit}
-use Rattle.std.specs.Prelude.{Result, Ok, Err, is_ok}
+use Rattle.std.specs.Prelude.{Result, Ok, Err, is_ok, Option, ◌==◌}
+use Rattle.std.specs.Option.{unwrap_or}
+use Rattle.std.specs.List.{position, position_or_len}
+use Rattle.std.proofs.lemmas.List.Edits.{sets, sets-eq}
+use Rattle.std.proofs.Common.{ltb-false, append_assoc}
 use Rattle.replay_feed.specs.declared.Kept.{Kept}
 use Rattle.replay_feed.specs.declared.Moved.{Moved}
 
--- what is kept of the bytes of l from place j on, in buffer c, is what was kept from place i on, in buffer b
-pub record Keeping (b : Buffer) (l : List ℕ) (i : ℕ) (c : Buffer) (j : ℕ) : Type 0 where
-  pub next : j + before (drop j l) ≡ i + before (drop i l)
-  pub keeps : kept_all c (take (before (drop j l)) (drop j l)) ≡ kept_all b (take (before (drop i l)) (drop i l))
+-- the place of the first line feed
+abbrev is_feed : ℕ → Bool
+is_feed b = b == line_feed
 
-pub keep_start : (b : Buffer) (l : List ℕ) (i : ℕ) → Keeping b l i b i
-keep_start b l i = record { next = refl; keeps = refl }
+first_feed : (l : List ℕ) → position_or_len is_feed l ≡ before l
+unfolding before
+first_feed [] = refl
+first_feed (x ∷ l) = by_cases (eqb x line_feed) (λ o. rw o refl) (λ o. rw o (omega (arith, first_feed l)))
 
-module _ {b : Buffer} {l : List ℕ} {i : ℕ} {c : Buffer} {j : ℕ} (h : Keeping b l i c j) where
-  pub keep_done : {n : ℕ} → length l ≤ j → KeptTo b l i (record { pending = n; next = j }) c
-  unfolding before kept_all
-  keep_done g =
-      let e = drop_of_length-le l {i = j} g in
-      record { next = rw (e, add-zero j) at h.next; keeps = rw e at h.keeps }
+before_most : (l : List ℕ) → before l ≤ length l
+unfolding before
+before_most [] = omega arith
+before_most (x ∷ l) = by_cases (eqb x line_feed) (λ o. rw o (omega arith)) (λ o. rw o (omega (arith, before_most l)))
 
-  module _ (g : j < length l) where
-    pub keep_feed : {n : ℕ} → get_or l j 0 ≡ 10 → KeptTo b l i (record { pending = n; next = j }) c
-    unfolding before kept_all
-    keep_feed x =
-        let e : drop j l ≡ 10 ∷ drop (suc j) l = drop-cons l j 0 g ∙ rw x in
-        record { next = rw (e, add-zero j) at h.next; keeps = rw e at h.keeps }
+pub before_is : (l : List ℕ) {r : Option ℕ} {n : ℕ} → r ≡ position (λ b. b == line_feed) l → n ≡ unwrap_or r (length l) → (n ≡ before l) × (n ≤ length l)
+before_is l e f =
+    by_cases (ltb (position_or_len is_feed l) (length l))
+    (λ o. let z = f ∙ rw (e, o) (first_feed l) in (z, omega (arith, z, before_most l)))
+    (λ o. let z = f ∙ rw (e, o) (omega (arith, first_feed l, before_most l, ltb-false (position_or_len is_feed l) (length l) o)) in (z, omega (arith, z, before_most l)))
 
-    other : (x : ℕ) → x ≡ get_or l j 0 → (x ≡ 10 → ⊥) → (d : Buffer) → kept c x ≡ d → Keeping b l i d (j + 1)
-    unfolding before kept_all
-    other x y f d e =
-        let z = ne_eqb x 10 f in
-        let w : drop j l ≡ x ∷ drop (suc j) l = drop-cons l j 0 g ∙ rw (← y) in
-        let k : kept_all (kept c x) (take (before (drop (suc j) l)) (drop (suc j) l)) ≡ kept_all c (take (before (drop j l)) (drop j l)) = rw (w, z) in
-        record { next = rw (add-one j, suc-add) (rw (w, z, add-suc) at h.next); keeps = rw (add-one j, ← e) (k ∙ h.keeps) }
+-- a full buffer keeps no byte
+kept_full : (b : Buffer) (l : List ℕ) → line_kept ≤ b.pending → kept_all b l ≡ b
+unfolding kept_all
+kept_full b [] h = refl
+kept_full b (x ∷ l) h = rw (le-ltb b.pending line_kept h) (kept_full b l h)
 
-    -- a byte of a line
-    module _ (x : ℕ) (y : x ≡ get_or l j 0) (f : x ≡ 10 → ⊥) where
-      pub keep_byte : c.pending < line_kept → Keeping b l i (record { line = set c.line c.pending x; pending = c.pending + 1 }) (j + 1)
-      keep_byte k = other x y f _ (rw (lt-ltb c.pending line_kept k, add-one c.pending))
+-- of the bytes l, the first k are kept: all, or those that fill the buffer
+kept_first : (m : List ℕ) (p : ℕ) (l : List ℕ) (k : ℕ) → p + k ≤ line_kept → k ≤ length l → (k < length l → p + k ≡ line_kept) →
+    kept_all (record { line = m; pending = p }) l ≡ record { line = sets m p (take k l); pending = p + k }
+unfolding kept_all
+kept_first m p [] k h g f = let z : k ≡ 0 = omega arith in rw (z, add-zero p) refl
+kept_first m p (x ∷ l) zero h g f =
+    let z : p + 0 ≡ line_kept = f (omega arith) in
+    kept_full (record { line = m; pending = p }) (x ∷ l) (omega (arith, z)) ∙ rw (add-zero p) refl
+kept_first m p (x ∷ l) (suc k) h g f =
+    rw (lt-ltb p line_kept (omega arith))
+    (kept_first (set m p x) (suc p) l k (omega arith) (omega arith) (λ i. let z = f (omega arith) in omega (arith, z)) ∙ rw (suc-add, add-suc) refl)
 
-      pub keep_over : line_kept ≤ c.pending → Keeping b l i c (j + 1)
-      keep_over k = other x y f c (rw (le-ltb c.pending line_kept k))
+-- the bytes of l from place i on up to a line feed, of which there are n: those that the buffer has room for are kept
+pub keeps : (m : List ℕ) (p : ℕ) (l : List ℕ) (i : ℕ) {n e : ℕ} {r c : List ℕ} → length m ≡ line_kept → p ≤ line_kept → (n ≡ before r) × (n ≤ length r) → e ≡ min line_kept (p + n) →
+    r ≡ drop i l → c ≡ take (e - p) r → KeptTo (record { line = m; pending = p }) l i (record { pending = e; next = i + n }) (record { line = put_mid p (e - p) m c; pending = e })
+keeps m p l i {n} {e} {r} {c} full few counted ends from copied =
+    let k : ℕ = e - p in
+    let within : p + k ≤ line_kept = omega (arith, ends) in
+    let most : k ≤ n = omega (arith, ends) in
+    let end : p + k ≡ e = omega (arith, ends) in
+    let long : length (take n r) ≡ n = length-take-le n r counted.1 in
+    let bytes : c ≡ take k (take n r) = copied ∙ sym (take-take k n r most) in
+    let count : length c ≡ k = rw bytes (length-take-le k (take n r) (omega (arith, long, most))) in
+    let put : put_mid p k m c ≡ sets m p c = sym (sets-eq c m p (omega (arith, count, full, within)) ∙ rw (count, append_assoc, drop-drop k p m) refl) in
+    let all : kept_all (record { line = m; pending = p }) (take n r) ≡ record { line = sets m p (take k (take n r)); pending = p + k } =
+    kept_first m p (take n r) k within (omega (arith, long, most)) (λ z. omega (arith, long, ends, z)) in
+    record {
+      next = rw (← from, ← counted.0) refl;
+      keeps = rw (← from, ← counted.0, all, put, ← bytes, end) refl;
+    }
 
 -- a buffer that fits goes on fitting
 abbrev Fit : Buffer → Type 0

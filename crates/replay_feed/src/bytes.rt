@@ -1,8 +1,10 @@
 // The reader: the bytes of a line of an input, and the line that they end.
-ghost use Rattle.std.specs.Prelude.{◌≡◌, ◌^◌, ◌≤◌, ◌<◌, length};
+ghost use Rattle.std.specs.Prelude.{◌≡◌, ◌^◌, ◌≤◌, ◌<◌, ◌==◌, length};
+ghost use Rattle.std.specs.List.{position};
+ghost use Rattle.replay_text.specs.Bytes.{line_feed};
 ghost use Rattle.replay_tables.specs.Whole.{Same};
 ghost use Rattle.replay_session.specs.Standing.{lent_buffers, standing};
-ghost use Rattle.replay_text.specs.Stream.{line_kept};
+ghost use Rattle.replay_text.specs.Stream.{before, line_kept};
 ghost use Rattle.replay_feed.specs.Promise.{KeptTo, MovedTo, moved_by};
 
 use crate::{Kept, LINE_KEPT, Moved};
@@ -15,29 +17,29 @@ fn keep(line: &mut [u8], pending: usize, input: &[u8], from: usize) -> Kept
     requires { (length line.old ≡ line_kept) × (pending ≤ line_kept) × (from ≤ length input.now) }
     ensures { KeptTo (record { line = line.old; pending = pending }) input.now from result (record { line = line.new; pending = result.pending }) }
 {
-    let mut end = pending;
-    let mut i = from;
-    // Kept: the place of the input and that of the buffer move by steps of their own.
-    while i < input.len() {
-        let byte = input[i];
-        if byte == LINE_FEED {
-            return Kept {
-                pending: end,
-                next: i,
-            };
-        }
-        if end < LINE_KEPT {
-            line[end] = byte;
-            end += 1;
-            i += 1;
-        } else {
-            i += 1;
-        }
-    }
+    let rest = &input[from..];
+    let count = before(rest);
+    let end = LINE_KEPT.min(pending + count);
+    line[pending..end].copy_from_slice(&rest[..end - pending]);
     Kept {
         pending: end,
-        next: i,
+        next: from + count,
     }
+}
+
+// How many bytes there are before the first line feed; all where there is none.
+#[tactic(auto, using(crate::proofs::TakeLaws::before_is))]
+fn before(input: &[u8]) -> usize
+    ensures { (result ≡ before input.now) × (result ≤ length input.now) }
+{
+    feed_in(input).unwrap_or(input.len())
+}
+
+// The place of the first line feed.
+fn feed_in(input: &[u8]) -> Option<usize>
+    ensures { result ≡ position (λ b. b == line_feed) input.now }
+{
+    input.iter().position(|byte| *byte == LINE_FEED)
 }
 
 // The line feed at place `next` of an input of `length` bytes was taken if its line could end; if not, no byte after it is.
@@ -82,21 +84,20 @@ pub(crate) fn take_line(
     ensures same { Same lent.old lent.new }
 {
     let kept = keep(line, progress.pending, input, from);
-    let extent = progress.extent;
     let held = Progress {
-        extent,
         pending: kept.pending,
-        count: progress.count,
+        ..progress
     };
     let next = kept.next;
     if next < input.len() {
         let ended = end_line(held, lent, line, out, at);
-        return moved_by(held, at, ended, next, input.len());
-    }
-    Moved {
-        progress: held,
-        at,
-        next,
-        limit: input.len(),
+        moved_by(held, at, ended, next, input.len())
+    } else {
+        Moved {
+            progress: held,
+            at,
+            next,
+            limit: input.len(),
+        }
     }
 }

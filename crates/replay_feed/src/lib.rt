@@ -33,7 +33,7 @@ pub struct Fed {
 pub struct Unfit;
 
 // How many bytes of the line are kept, and the place of the input after them.
-#[derive(Clone, Copy)]
+#[derive(Clone, Copy, Debug, PartialEq, Eq)]
 pub(crate) struct Kept {
     pub(crate) pending: usize,
     pub(crate) next: usize,
@@ -41,7 +41,8 @@ pub(crate) struct Kept {
 
 // Where the replay stands after a line's bytes, the end of the output, the place of the input after those bytes, and the place up to which bytes can be taken:
 // the end of the input, or `next` where the byte there is a line feed whose line could not end.
-#[derive(Clone, Copy)]
+// Kept: a limit, which is all that the loop of `feed` tests; an Option would have to be turned into one there.
+#[derive(Clone, Copy, Debug, PartialEq, Eq)]
 pub(crate) struct Moved {
     pub(crate) progress: Progress,
     pub(crate) at: usize,
@@ -76,12 +77,12 @@ fn fit(length: usize, pending: usize) -> bool
 
 // A piece of the input: its bytes, up to the first line that cannot end.
 pub fn feed(
-    progress: Progress,
+    mut progress: Progress,
     lent: &mut Lent<'_>,
     line: &mut [u8],
     input: &[u8],
     out: &mut [u8],
-    at: usize,
+    mut at: usize,
 ) -> Result<Fed, Unfit>
     ensures fed { FedAs (standing progress (lent_buffers lent.old line.old out.old) at) input.now result (lent_buffers lent.new line.new out.new) }
     ensures same { Same lent.old lent.new }
@@ -89,22 +90,20 @@ pub fn feed(
     if !fit(line.len(), progress.pending) {
         return Err(Unfit);
     }
-    let mut p = progress;
-    let mut end = at;
     let mut i = 0;
     let mut limit = input.len();
     // Kept: a turn takes the bytes of a whole line, and the last one may move the limit.
     while i < limit {
-        let moved = take_line(p, lent, line, input, i, out, end);
-        p = moved.progress;
-        end = moved.at;
+        let moved = take_line(progress, lent, line, input, i, out, at);
+        progress = moved.progress;
+        at = moved.at;
         i = moved.next;
         limit = moved.limit;
     }
     Ok(Fed {
-        progress: p,
+        progress,
         bytes: i,
-        at: end,
+        at,
     })
 }
 
@@ -128,5 +127,5 @@ pub fn finish(
 fn end_bytes(pending: usize) -> usize
     ensures { result ≡ end_bytes pending }
 {
-    if pending == 0 { 0 } else { 1 }
+    usize::from(pending != 0)
 }

@@ -10,7 +10,7 @@ use Rattle.replay_text.specs.declared.Line.TheVariants.{Size, Set, Request as Re
 use Rattle.replay_text.specs.declared.Table.{Table}
 use Rattle.replay_text.specs.Text.{bad_numbers}
 use Rattle.replay_tables.specs.Lent.{Lent, extent_of, room_for, after_in}
-use Rattle.replay_tables.specs.Promise.{SizedTo, DidSet}
+use Rattle.replay_tables.specs.Promise.{SetEnd, set_reply, SizedTo, DidSet}
 use Rattle.std.specs.Prelude.{Ok, Err}
 use Rattle.replay_text.specs.declared.Line.{Line}
 use Rattle.replay_text.specs.declared.BadLine.{BadLine}
@@ -23,9 +23,9 @@ module _ (b : Lent) (l : Line) (r : Reply) (c : Lent) where
   unfolding reply_to after_in
   ran_size e h = rw e (record { replies = h.0; leaves = h.1; isolation = session-isolation })
 
-  pub ran_set : {u : Table} {i v : ℕ} → l ≡ Set u i v → DidSet b u i v r c → RanLine b (Ok l) r c
+  pub ran_set : {u : Table} {i v : ℕ} (d : SetEnd) → l ≡ Set u i v → r ≡ set_reply d → DidSet b u i v d c → RanLine b (Ok l) r c
   unfolding room_for reply_to after_in
-  ran_set e h = rw e (record { replies = h.0; leaves = h.1; isolation = session-isolation })
+  ran_set d e f h = rw (e, f) (record { replies = h.0; leaves = h.1; isolation = session-isolation })
 
   pub ran-request : {q : Request} → l ≡ RequestLine q → Requested b q r c → RanLine b (Ok l) r c
   unfolding room_for after_in

@@ -2,10 +2,10 @@
 ghost use Rattle.std.specs.Prelude.{◌≡◌, ◌*◌, take, Ok};
 ghost use Rattle.kinds.specs.Answer.{numbered};
 ghost use Rattle.profile.specs.Step.{answered, after};
-ghost use Rattle.tables.specs.Tables.{tables, live};
-ghost use Rattle.replay_text.specs.SessionTables.{replay_installed};
+ghost use Rattle.tables.specs.Tables.{live};
 ghost use Rattle.replay_text.specs.Results.{says};
 ghost use Rattle.replay_tables.specs.Lent.{lent};
+ghost use Rattle.replay_tables.specs.Promise.{set_reply};
 ghost use Rattle.replay_tables.specs.Whole.{whole, Same};
 ghost use Rattle.replay_session.specs.Promise.{RanLine, Requested, ServedParts};
 
@@ -14,11 +14,9 @@ use kinds::answer::Numbers;
 use kinds::record::Sizes;
 use kinds::request::Request;
 use profile::limits::{ENTRY_WORDS, INTERRUPT_WORDS, PEER_WORDS, SEGMENT_COUNT, WINDOW_WORDS};
-use replay_tables;
 use replay_tables::lent::Lent;
-use replay_tables::{Extent, Replied};
-use replay_text;
-use replay_text::{BadLine, INSTALLED, Line};
+use replay_tables::{self, Extent, Replied};
+use replay_text::{self, BadLine, INSTALLED, Line, Reply};
 use table_lists::{once, used};
 use tables::lent::{Live, Tables};
 
@@ -41,38 +39,25 @@ fn serve_on(
     ensures answers { result ≡ numbered (answered tables.now memory.now (live state.old interrupts.old) request) }
     ensures leaves { live state.new interrupts.new ≡ after tables.now memory.now (live state.old interrupts.old) request }
 {
-    let mut lent = Live { state, interrupts };
-    Numbers::from(handle::handle(tables, memory, &mut lent, request))
+    let mut live = Live { state, interrupts };
+    Numbers::from(handle::handle(tables, memory, &mut live, request))
 }
 
 // A request, where of all tables but interrupts and state only the part in use is lent.
 fn serve_parts(
-    sizes: Sizes,
-    requesters: &[u16],
-    entries: &[u64],
+    tables: &Tables<'_>,
     memory: &[u64],
-    peers: &[u64],
-    windows: &[u64],
-    segments: &[u16],
     state: &mut [u64],
     interrupts: &mut [u64],
     request: Request,
 ) -> Numbers
-    ensures { ServedParts (tables sizes replay_installed requesters.now entries.now peers.now windows.now segments.now) memory.now (live state.old interrupts.old) request result (live state.new interrupts.new) }
+    ensures { ServedParts tables.now memory.now (live state.old interrupts.old) request result (live state.new interrupts.new) }
 {
-    let tables = Tables {
-        sizes,
-        installed: INSTALLED,
-        requesters,
-        entries,
-        peers,
-        windows,
-        segments,
-    };
+    let sizes = tables.sizes;
     let state_end = replay_tables::state_used(sizes.pes, state.len());
     let interrupt_end = used(sizes.interrupts, INTERRUPT_WORDS, interrupts.len());
     serve_on(
-        &tables,
+        tables,
         memory,
         &mut state[..state_end],
         &mut interrupts[..interrupt_end],
@@ -81,7 +66,7 @@ fn serve_parts(
 }
 
 // A request, on the parts of the lists that are in use.
-// Kept: lists and not a `Lent`, of which no two can be read side by side while it may be written.
+// Kept: lists and not a `Lent`: while one of its fields is lent, a read of another gets no proof.
 fn serve_lists(
     extent: Extent,
     requesters: &mut [u16],
@@ -98,18 +83,17 @@ fn serve_lists(
 {
     let sizes = extent.sizes;
     let there = once(sizes.pes);
-    serve_parts(
+    let tables = Tables {
         sizes,
-        part(requesters, sizes.requesters, 1),
-        part(entries, sizes.pes, ENTRY_WORDS),
-        part(memory, extent.memory, 1),
-        part(peers, sizes.pes, PEER_WORDS),
-        part(windows, there, WINDOW_WORDS),
-        part(segments, there, SEGMENT_COUNT),
-        state,
-        interrupts,
-        request,
-    )
+        installed: INSTALLED,
+        requesters: part(requesters, sizes.requesters, 1),
+        entries: part(entries, sizes.pes, ENTRY_WORDS),
+        peers: part(peers, sizes.pes, PEER_WORDS),
+        windows: part(windows, there, WINDOW_WORDS),
+        segments: part(segments, there, SEGMENT_COUNT),
+    };
+    let words = part(memory, extent.memory, 1);
+    serve_parts(&tables, words, state, interrupts, request)
 }
 
 // The same of the lent tables.
@@ -129,6 +113,16 @@ fn serve_in(extent: Extent, lent: &mut Lent<'_>, request: Request) -> Numbers
         lent.interrupts,
         request,
     )
+}
+
+// What a set line writes: nothing, or the answer to a bad line.
+fn set_reply(ended: Result<(), BadLine>) -> Reply
+    ensures { result ≡ set_reply ended }
+{
+    match ended {
+        Ok(()) => Ok(None),
+        Err(BadLine) => Ok(Some(replay_text::bad())),
+    }
 }
 
 // A line that says something.
@@ -155,10 +149,10 @@ fn run_good(extent: Extent, lent: &mut Lent<'_>, line: Line) -> Replied
             index,
             value,
         } => {
-            let numbers = replay_tables::set_in(extent, lent, table, index, value);
+            let ended = replay_tables::set_in(extent, lent, table, index, value);
             Replied {
                 extent,
-                reply: Ok(numbers),
+                reply: set_reply(ended),
             }
         }
         Line::Request(request) => {

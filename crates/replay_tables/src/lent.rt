@@ -1,4 +1,5 @@
 // What a replay is lent for its tables: each list whole, the words in use and those after them.
+// Kept: no Model, and so a clause `Same` beside what is written: a Model over `&mut` lists loses what their maker wrote.
 ghost use Rattle.std.specs.Prelude.{◌≡◌};
 ghost use Rattle.tables.specs.Tables.{lengths_of};
 
@@ -17,6 +18,7 @@ pub struct Lent<'a> {
 }
 
 impl<'a> Lent<'a> {
+    // The length of each list in words, past those in use too.
     pub fn lengths(&self) -> Lengths
         ensures { result ≡ lengths_of self.now.requesters.now self.now.entries.now self.now.memory.now self.now.peers.now self.now.interrupts.now self.now.windows.now self.now.segments.now self.now.state.now }
     {

@@ -5,18 +5,17 @@ pub mod lent;
 mod size;
 mod table;
 
-ghost use Rattle.std.specs.Prelude.{◌≡◌, min, Ok};
+ghost use Rattle.std.specs.Prelude.{◌≡◌, min};
 ghost use Rattle.replay_tables.specs.Lent.{state_used};
 ghost use Rattle.replay_tables.specs.Promise.{DidSet, SizedTo};
 ghost use Rattle.replay_tables.specs.Whole.{whole, Same};
 
-use kinds::answer::Numbers;
 use kinds::record::Sizes;
 use lent::Lent;
 use profile::limits::{
     ENTRY_WORDS, FENCE_WORDS, INTERRUPT_WORDS, PEER_WORDS, SEGMENT_COUNT, STATE_WORDS, WINDOW_WORDS,
 };
-use replay_text::{NoRoom, Reply, Table};
+use replay_text::{BadLine, NoRoom, Reply, Table};
 use size::{clear_all, room_for};
 use table::{set_state, set_word, short};
 use table_lists::{once, used};
@@ -29,7 +28,7 @@ pub struct Extent {
 }
 
 // What became of a line: the extent after it, and what it writes.
-#[derive(Clone, Copy)]
+#[derive(Clone, Copy, Debug, PartialEq, Eq)]
 pub struct Replied {
     pub extent: Extent,
     pub reply: Reply,
@@ -50,15 +49,15 @@ pub fn state_used(pes: u64, length: usize) -> usize
     }
 }
 
-// A set line: a word of a table set where it is in use, or the answer to a bad line.
+// A set line: a word of a table set. A word that is not in use, or a value too wide for one, is a bad line, and nothing is written.
 pub fn set_in(
     extent: Extent,
     lent: &mut Lent<'_>,
     table: Table,
     index: u64,
     value: u64,
-) -> Option<Numbers>
-    ensures set { DidSet (whole extent lent.old) table index value (Ok result) (whole extent lent.new) }
+) -> Result<(), BadLine>
+    ensures set { DidSet (whole extent lent.old) table index value result (whole extent lent.new) }
     ensures same { Same lent.old lent.new }
 {
     let sizes = extent.sizes;

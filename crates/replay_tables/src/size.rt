@@ -21,7 +21,7 @@ fn pe_room(pes: u64, lengths: Lengths) -> bool
         && pes <= (lengths.state - FENCE_WORDS) / STATE_WORDS
 }
 
-// Whether the others are.
+// Whether the lists of interrupts, requesters, memory, windows and segments are long enough.
 fn other_room(interrupts: u64, requesters: u64, memory: u64, lengths: Lengths) -> bool
     ensures { result ≡ other_room interrupts requesters memory lengths }
 {
@@ -32,7 +32,7 @@ fn other_room(interrupts: u64, requesters: u64, memory: u64, lengths: Lengths) -
         && SEGMENT_COUNT <= lengths.segments
 }
 
-// Whether all are, for tables of at least one PE.
+// Whether all lists are long enough, for tables of at least one PE.
 #[tactic(auto, unfolding(crate::specs::Lent::room_for))]
 pub(crate) fn room_for(asked: Extent, lengths: Lengths) -> bool
     ensures { result ≡ room_for (size_line asked) lengths }

@@ -7,15 +7,17 @@ ghost use Rattle.replay_text.specs.Text.{bad_numbers};
 use kinds::answer::Numbers;
 use kinds::request::Request;
 
-// The byte that parts fields, and the byte that ends a line.
+// The byte that parts fields.
 pub const TAB: u8 = b'\t';
 
+// The byte that ends a line.
 pub const LINE_FEED: u8 = b'\n';
 
 // The installed size of every replay: 4 GiB.
 pub const INSTALLED: u64 = 0x1_0000_0000;
 
 // The number of the name `bad`.
+// Kept: a number, as `Numbers.name` is in the words of C and in the definition `bad_numbers`.
 const BAD: u64 = 7;
 
 // The tables, as a set line names them.
@@ -31,6 +33,7 @@ pub enum Table {
     State,
 }
 
+// What a line says: a size line with the counts of PEs, interrupts, requesters and memory words, a set line with a word's place in its table, or a request.
 #[derive(Clone, Copy, Debug, PartialEq, Eq)]
 pub enum Line {
     Size {
@@ -51,7 +54,7 @@ pub enum Line {
 #[derive(Clone, Copy, Debug, PartialEq, Eq)]
 pub struct BadLine;
 
-// The lent tables are too short for a size line, and nothing was done.
+// What is lent has no room: the tables for a size line, the output for a line, or the count of output lines for one more. Nothing was done.
 #[derive(Clone, Copy, Debug, PartialEq, Eq)]
 pub struct NoRoom;
 

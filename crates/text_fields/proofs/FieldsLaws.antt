@@ -2,7 +2,7 @@
 --     text_then           with a tab at place i: the bytes before it are the first field, and those after it hold the others
 --     text_last           with none: the line is its one field
 -- Assumes nothing.
-use Rattle.std.specs.Prelude.{◌≡◌, Bool, List, [], ◌∷◌, ℕ, ◌+◌, ◌-◌, ◌<◌, ◌≤◌, ltb, eqb, length, take, drop, Option, Some, None, Result, Ok, Err, IsErr, ok_or, refl, ◌==◌}
+use Rattle.std.specs.Prelude.{◌≡◌, Bool, List, [], ◌∷◌, ℕ, ◌+◌, ◌-◌, ◌<◌, ◌≤◌, ltb, eqb, length, take, drop, Option, Some, None, MatchOption, Result, Ok, Err, IsErr, ok_or, refl, ◌==◌}
 use Rattle.std.specs.Borrow.{Bor}
 use Rattle.std.specs.List.{position, position_or_len, slice_split, onto_first}
 use Rattle.std.proofs.Common.{sym, ◌∙◌, arith, ltb-true, ltb-false, take_all, length-drop, le_refl}
@@ -86,15 +86,29 @@ pub err_is : {A : Type 0} (x : Result A BadLine) → IsErr x → x ≡ Err (reco
 err_is (Ok a) h = clash h refl
 err_is (Err e) h = refl
 
+ok_is : (a b : Bor (List ℕ)) → ◌≡◌ {A = Result (Bor (List ℕ)) BadLine} (Ok a) (Ok b) → a ≡ b
+ok_is a b e = cc
+
+-- the text of the next field, or a bad line
+pub text_ok : {s n : List (List ℕ)} (o : Option (Bor (List ℕ))) {t : Result (Bor (List ℕ)) BadLine} {l : Bor (List ℕ)} →
+    MatchOption o ((s ≡ []) × (n ≡ [])) (λ f. s ≡ f.now ∷ n) → t ≡ ok_or o (record {}) → t ≡ Ok l → s ≡ l.now ∷ n
+text_ok None e f g = let z = sym g ∙ f in cc
+text_ok (Some t) {l = l} e f g = rw (ok_is l t (sym g ∙ f)) e
+
+pub text_bad : {s : List (List ℕ)} (n : List (List ℕ)) (o : Option (Bor (List ℕ))) {t : Result (Bor (List ℕ)) BadLine} {b : BadLine} →
+    MatchOption o ((s ≡ []) × (n ≡ [])) (λ f. s ≡ f.now ∷ n) → t ≡ ok_or o (record {}) → t ≡ Err b → s ≡ []
+text_bad n None e f g = e.0
+text_bad n (Some t) e f g = let z = sym g ∙ f in cc
+
 -- the next field
 module _ {A : Type 0} (read : List ℕ → Option A) (s : List (List ℕ)) where
   pub next_some : {t : List ℕ} {n : List (List ℕ)} {a : Option A} {r : Result A BadLine} → s ≡ t ∷ n → a ≡ read t → r ≡ ok_or a (record {}) → r ≡ next_value read s
   unfolding next_value
   next_some e f g = g ∙ rw (e, f) refl
 
-  pub next_none : s ≡ [] → Err (record {}) ≡ next_value read s
+  pub next_none : {r : Result A BadLine} → s ≡ [] → IsErr r → r ≡ next_value read s
   unfolding next_value
-  next_none e = rw e refl
+  next_none {r = r} e h = err_is r h ∙ rw e refl
 
 -- the last field
 pub last_bad : {A : Type 0} (read : List ℕ → Option A) (s : List (List ℕ)) {r x : Result A BadLine} {b : BadLine} → r ≡ next_value read s → r ≡ Err b → IsErr x → x ≡ last_value read s

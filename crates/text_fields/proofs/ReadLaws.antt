@@ -17,9 +17,9 @@ pub line_then : (l : List ℕ) {s n : List (List ℕ)} {w : List ℕ} {y : Parse
 unfolding line_of field formed
 line_then l e f h = rw (← e, f) h
 
-pub line_none : (l : List ℕ) {s : List (List ℕ)} → s ≡ fields_of l → s ≡ [] → bad ≡ line_of l
+pub line_none : (l : List ℕ) {s : List (List ℕ)} {y : Parsed} → s ≡ fields_of l → s ≡ [] → IsErr y → y ≡ line_of l
 unfolding line_of field
-line_none l e f = rw (← e, f) refl
+line_none l {y = y} e f h = err_is y h ∙ rw (← e, f) refl
 
 -- a value, and what follows of it
 given_ok : {A : Type 0} {a : A} (o : Option A) (k : A → Parsed) → Ok a ≡ ok_or {E = BadLine} o (record {}) → given o k ≡ k a

@@ -18,6 +18,7 @@ pub trait FieldValue: Copy {
     // What the text of a field says.
     ghost read: { List ℕ → Option Self };
 
+    // The value that a text says; none where it says no such value.
     fn in_text(text: &[u8]) -> Option<Self>
         ensures { result ≡ read text.now };
 }
@@ -39,13 +40,14 @@ impl<'a> Model for Fields<'a> {
 }
 
 impl<'a> Fields<'a> {
+    // The fields of a line, which has one more than it has tabs.
     pub fn of(line: &'a [u8]) -> Fields<'a>
         ensures { result ≡ fields_of line.now }
     {
         Fields { rest: Some(line) }
     }
 
-    // The text of the next field.
+    // The text of the next field; none after the last one.
     pub fn text(&mut self) -> Option<&'a [u8]>
         ensures { MatchOption result ((self.old ≡ []) × (self.new ≡ [])) (λ text. self.old ≡ text.now ∷ self.new) }
     {
@@ -62,18 +64,16 @@ impl<'a> Fields<'a> {
         }
     }
 
-    // The value of the next field.
+    // The value of the next field; a bad line where there is none, or its text is no such value.
     pub fn next<T: FieldValue>(&mut self) -> Result<T, BadLine>
         ensures value { result ≡ next_value T.read self.old }
         ensures left { self.new ≡ after_next self.old }
     {
-        match self.text() {
-            Some(text) => T::in_text(text).ok_or(BadLine),
-            None => Err(BadLine),
-        }
+        let text = self.text().ok_or(BadLine)?;
+        T::in_text(text).ok_or(BadLine)
     }
 
-    // The value of the one field that is left.
+    // The value of the one field that is left; a bad line where there is none or another after it, or its text is no such value.
     pub fn last<T: FieldValue>(mut self) -> Result<T, BadLine>
         ensures { result ≡ last_value T.read self.entry }
     {
@@ -86,6 +86,7 @@ impl<'a> Fields<'a> {
 }
 
 // Whether a text is this word.
+// Kept: a function, whose contract gives the equality of the definition; a `==` in place needs the lemma at each use.
 #[tactic(auto, using(crate::proofs::NameLaws::is_equal))]
 pub fn same(text: &[u8], word: &[u8]) -> bool
     ensures { result ≡ is text.now word.now }

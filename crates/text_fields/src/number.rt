@@ -1,4 +1,5 @@
 // The number in a field.
+// Kept: not `from_str_radix`, which takes a `+` and capital letters.
 ghost use Rattle.std.specs.Prelude.{◌≡◌};
 ghost use Rattle.text_fields.specs.Fields.{digit_in};
 

@@ -7,6 +7,7 @@ use replay_text::{BadLine, Line};
 use text_fields::{Fields, same};
 
 // By its first field; `fields` are those after it.
+// Kept: a chain of `same`, as the names in text_fields.
 #[tactic(auto, using(replay_text::proofs::FormLaws::picks))]
 pub(crate) fn read_firmware(word: &[u8], fields: Fields<'_>) -> Result<Line, BadLine>
     ensures { result ≡ spec.formed spec.firmware_forms word.now fields.entry }

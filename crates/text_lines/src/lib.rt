@@ -11,26 +11,29 @@ use replay_text::{BadLine, Line};
 use request::read_request;
 use text_fields::{Fields, same};
 
-// The most that a size line can ask for.
+// The most PEs that a size line can ask for, and at least one.
 pub const MOST_PES: u64 = 16;
 
+// The most interrupts.
 pub const MOST_INTERRUPTS: u64 = 64;
 
+// The most requesters, and at least one.
 pub const MOST_REQUESTERS: u64 = 64;
 
+// The most words of memory.
 pub const MOST_MEMORY: u64 = 4096;
 
+// What a line says, from its bytes without the line feed; a bad line where it is of no form, or a size is past its limit.
 pub fn parse(line: &[u8]) -> Result<Line, BadLine>
     ensures { result ≡ spec.line_of line.now }
 {
     let mut fields = Fields::of(line);
-    match fields.text() {
-        Some(word) => read_line(word, fields),
-        None => Err(BadLine),
-    }
+    let word = fields.text().ok_or(BadLine)?;
+    read_line(word, fields)
 }
 
 // By its first field; `fields` are those after it.
+// Kept: a chain of `same`, as the names in text_fields.
 #[tactic(auto, using(replay_text::proofs::FormLaws::picks))]
 fn read_line(word: &[u8], fields: Fields<'_>) -> Result<Line, BadLine>
     ensures { result ≡ spec.formed spec.forms word.now fields.entry }
@@ -59,11 +62,9 @@ fn read_size(mut fields: Fields<'_>) -> Result<Line, BadLine>
 fn size_within(pes: u64, interrupts: u64, requesters: u64, memory: u64) -> Result<Line, BadLine>
     ensures { result ≡ spec.sized pes interrupts requesters memory }
 {
-    let fits = 1 <= pes
-        && pes <= MOST_PES
+    let fits = (1..=MOST_PES).contains(&pes)
         && interrupts <= MOST_INTERRUPTS
-        && 1 <= requesters
-        && requesters <= MOST_REQUESTERS
+        && (1..=MOST_REQUESTERS).contains(&requesters)
         && memory <= MOST_MEMORY;
     if fits {
         Ok(Line::Size {

@@ -1,4 +1,5 @@
 // What the line of a request says.
+// Kept: `read_load` and `read_store`, and `read_error` here and `read_end` of firmware: they share their reads alone, and a function of both would need as many lines at each.
 ghost use Rattle.std.specs.Prelude.{◌≡◌};
 ghost use Rattle.replay_text.specs.Line as spec;
 
@@ -9,6 +10,7 @@ use replay_text::{BadLine, Line};
 use text_fields::{Fields, same};
 
 // By its first field; `fields` are those after it.
+// Kept: a chain of `same`, as the names in text_fields.
 #[tactic(auto, using(replay_text::proofs::FormLaws::picks))]
 pub(crate) fn read_request(word: &[u8], fields: Fields<'_>) -> Result<Line, BadLine>
     ensures { result ≡ spec.formed spec.request_forms word.now fields.entry }
@@ -48,19 +50,16 @@ fn dma(
 ) -> Result<Line, BadLine>
     ensures { result ≡ spec.dma requester direction address.0 length «data» }
 {
-    match u32::try_from(data) {
-        Ok(data) => Ok(Line::Request(Request::Dma(DmaRequest {
-            requester,
-            direction,
-            address,
-            length,
-            data,
-        }))),
-        Err(_) => Err(BadLine),
-    }
+    let data = u32::try_from(data).map_err(|_| BadLine)?;
+    Ok(Line::Request(Request::Dma(DmaRequest {
+        requester,
+        direction,
+        address,
+        length,
+        data,
+    })))
 }
 
-// Kept: a load and a store share these two reads alone, and a function of both would need as many lines at each.
 fn read_load(mut fields: Fields<'_>) -> Result<Line, BadLine>
     ensures { result ≡ spec.load_line fields.entry }
 {

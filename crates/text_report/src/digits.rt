@@ -1,4 +1,5 @@
 // Numbers as text: the digits of a number and the byte that ends them, written into a lent slice.
+// Kept: not `write!`: the definition gives the digits one by one, and a turn here writes one of them.
 ghost use Rattle.std.specs.Prelude.{◌≡◌, ◌+◌, ◌≤◌, ◌<◌, length};
 ghost use Rattle.replay_text.specs.Digits as spec;
 ghost use Rattle.text_report.specs.Placed.{Wrote};

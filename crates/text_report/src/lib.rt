@@ -30,7 +30,7 @@ pub fn write_line(out: &mut [u8], at: usize, n: u64, numbers: Numbers) -> Result
     }
 }
 
-// The header, in the same way.
+// The header. The place after it; where too few bytes are free, none is written.
 pub fn write_header(out: &mut [u8], at: usize) -> Result<usize, NoRoom>
     ensures { (result ≡ placed (length spec.header) out.old at spec.header) × (out.new ≡ written (length spec.header) out.old at spec.header) }
 {

@@ -13,6 +13,7 @@ use kinds::answer::Numbers;
 use replay_text::{LINE_FEED, TAB};
 
 // The bytes of an output, and where the next one goes.
+// Kept: each method asks for the room of its own text; a fact of the type would need a count of free bytes beside it, lowered at each call.
 #[derive(Drop)]
 pub(crate) struct Output<'a> {
     pub(crate) bytes: &'a mut [u8],
@@ -38,7 +39,7 @@ impl<'a> Output<'a> {
         self.name(name);
     }
 
-    // The other three.
+    // Its last three fields: reason, value and words.
     fn tail(&mut self, reason: u64, value: u64, words: u64)
         requires { self.old.at + spec.tail_most ≤ length self.old.bytes.now }
         ensures { Writes (spec.tail_of reason value words) self.old self.new }
@@ -47,7 +48,7 @@ impl<'a> Output<'a> {
         self.last(value, words);
     }
 
-    // The last two.
+    // The last two: value and words.
     fn last(&mut self, value: u64, words: u64)
         requires { self.old.at + (hexadecimal_room + decimal_room) ≤ length self.old.bytes.now }
         ensures { Writes (ended_by tab (hexadecimal value) ++ ended_by line_feed (decimal words)) self.old self.new }

@@ -6,11 +6,11 @@ use Rattle.replay_feed.proofs.feed.Given as goal
 
 abbrev pub invariant-loop-i : goal.invariant-loop-i
 invariant-loop-i l = record {
-  fit : fits (standing l.p (lent_buffers l.lent l.line l.out) l.end) ≡ true;
+  fit : fits (standing l.progress (lent_buffers l.lent l.line l.out) l.at) ≡ true;
   line : length l.line ≡ length l.initial.line;
   out : length l.out ≡ length l.initial.out;
   same : Same l.initial.lent l.lent;
-  here : Here (standing l.initial.p (lent_buffers l.initial.lent l.initial.line l.initial.out) l.initial.end) l.input (standing l.p (lent_buffers l.lent l.line l.out) l.end) l.i l.limit;
+  here : Here (standing l.initial.progress (lent_buffers l.initial.lent l.initial.line l.initial.out) l.initial.at) l.input (standing l.progress (lent_buffers l.lent l.line l.out) l.at) l.i l.limit;
 }
 
 abbrev pub decreases-loop-i : goal.decreases-loop-i

@@ -1,9 +1,10 @@
 -- `text_lines::parse` meets its contract. Assumes nothing.
+use Rattle.text_fields.proofs.FieldsLaws.{text_ok, text_bad}
 use Rattle.text_fields.proofs.ReadLaws.{line_then, line_none}
 use Rattle.text_lines.proofs.parse.Goals as goal
 
-pub returns-in-Some : goal.returns-in-Some
-returns-in-Some c = search (line_then, c.in-Some.ensures)
+pub returns-in_err-word : goal.returns-in_err-word
+returns-in_err-word c = line_none _ c.of-fields.ensures (text_bad _ _ c.text.ensures c.ok_or.ensures.value c.in_err-word.was) c.from_residual.ensures.0
 
-pub returns-in-None : goal.returns-in-None
-returns-in-None c = search (line_none, c.in-None.ensures)
+pub returns : goal.returns
+returns c = line_then _ c.of-fields.ensures (text_ok _ c.text.ensures c.ok_or.ensures.value c.in_ok-word.was) c.read_line.ensures
