@@ -115,12 +115,12 @@ fn declares(file: &str, name: &str) -> bool {
     })
 }
 
-/// Whether a crate, or one module of it, has a function of this name or passes one on.
+/// Whether a crate, or one module of it, has a function or a method of this name or passes one on.
 fn has_function(path: &str) -> bool {
     let parts = path.split("::").collect::<Vec<_>>();
     let found = |file: &String| {
         (parts.len() < 3 || stem(file) == parts[1])
-            && read(file).lines().flat_map(items).any(|item| {
+            && read(file).lines().map(str::trim_start).flat_map(items).any(|item| {
                 ["fn", "use"].contains(&item.kind) && item.name == parts[parts.len() - 1]
             })
     };

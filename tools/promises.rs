@@ -143,15 +143,19 @@ fn clauses(head: &str, kind: &str) -> Vec<String> {
     texts.map(|text| text.split_whitespace().collect::<Vec<_>>().join(" ")).collect()
 }
 
-/// The functions and constants of a source: each begins at the left margin, a function ends with the first `}` there, a constant with `;`.
-/// A constant that is taken from elsewhere is where it is named.
+/// The functions and constants of a source: each begins at the left margin, or as a method in an `impl` that does; a function ends with the first `}`
+/// below its first letter, a constant with `;`. A constant that is taken from elsewhere is where it is named.
 fn items(file: &str, text: &str) -> Vec<Item> {
     let mut items = Vec::new();
     let mut at = 0;
+    let mut in_impl = false;
     let taken = imports(text);
     for line in text.split_inclusive('\n') {
         let start = at;
         at += line.len();
+        if line.starts_with(is_word) {
+            in_impl = line.starts_with("impl");
+        }
         let own = constant(line).map(str::to_string);
         let others = taken.iter().filter(|(place, _, _)| *place == start);
         let others = others.map(|(_, path, _)| path.rsplit("::").next().unwrap().to_string());
@@ -170,16 +174,20 @@ fn items(file: &str, text: &str) -> Vec<Item> {
                 body: text[start..end].to_string(),
             });
         }
-        let (public, rest) = match line.strip_prefix("pub ") {
+        let margin = if in_impl { "    " } else { "" };
+        let declared = line.strip_prefix(margin).unwrap_or(line);
+        let (public, rest) = match declared.strip_prefix("pub ") {
             Some(rest) => (true, rest),
-            None => (false, line.strip_prefix("pub(crate) ").unwrap_or(line)),
+            None => (false, declared.strip_prefix("pub(crate) ").unwrap_or(declared)),
         };
         let Some(rest) = rest.strip_prefix("extern \"C\" ").unwrap_or(rest).strip_prefix("fn ")
         else {
             continue;
         };
-        let end = start + text[start..].find("\n}").map_or(text.len() - start, |n| n + 2);
-        let whole = &text[start..end];
+        let close = format!("\n{margin}}}");
+        let length = text[start..].find(&close).map_or(text.len() - start, |n| n + close.len());
+        let end = start + length;
+        let whole = &text[start..end].replace(&format!("\n{margin}"), "\n");
         let parts = whole.split_once("\n{").or(whole.split_once(" {\n"));
         let (head, body) = parts.unwrap_or((whole, ""));
         let list = bracketed(head, '(', ')').unwrap_or("");
@@ -236,7 +244,8 @@ fn uses(body: &str) -> Vec<(String, String)> {
         for part in parts {
             let path = part.trim_end_matches(|c| !is_word(c));
             let (before, name) = path.rsplit_once("::").unwrap_or(("", path));
-            let call = part.ends_with('(') && name.starts_with(char::is_lowercase);
+            let call = part.ends_with('(') || part.ends_with("::<");
+            let call = call && name.starts_with(char::is_lowercase);
             if call || name.starts_with(char::is_uppercase) {
                 uses.push((before.to_string(), name.to_string()));
             }
@@ -376,7 +385,7 @@ fn definitions(text: &str, function: &Item) -> Vec<String> {
     found
 }
 
-/// Whether a clause states results as equal: it is an equation, or a record or product of equations and of claims that have a name.
+/// Whether a clause states results as equal: it is an equation, or a record or product of equations and of claims that have a name, whatever they are about.
 fn is_equation(text: &str, function: &Item, clause: &str) -> bool {
     if clause.contains(" ≡ ") {
         return !clause.contains(" ≤ ") && !clause.contains(" < ");
@@ -385,7 +394,7 @@ fn is_equation(text: &str, function: &Item, clause: &str) -> bool {
     let parts = block.iter().skip(1).filter(|line| !line.trim_start().starts_with("--"));
     let stated = |line: &String| {
         let field = line.split_once(" : ").map(|(_, of)| of);
-        line.contains(" ≡ ") || field.is_some_and(|of| of.chars().all(is_word))
+        line.contains(" ≡ ") || field.is_some_and(|of| of.chars().all(|c| is_word(c) || c == ' '))
     };
     block.len() > 1 && parts.clone().all(stated)
 }
