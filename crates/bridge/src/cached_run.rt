@@ -10,7 +10,7 @@ use cache_lists;
 use request_lists::word_lists;
 use tables::lent::{Live, Tables};
 
-// As many whole operations as both lists of words hold are served; their number is returned, and all other words stay.
+/// As many whole operations as both lists of words hold are served; their number is returned, and all other words stay.
 pub fn cached_run(
     tables: &Tables<'_>,
     memory: &mut [u64],

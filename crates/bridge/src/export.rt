@@ -20,7 +20,7 @@ fn sizes_of(pes: u64, interrupt_count: u64, requester_count: u64) -> Sizes
     }
 }
 
-// Serves the requests in `requests` on the lent tables, and writes their answers. N, M, R and the installed size in bytes come first.
+/// Serves the requests in `requests` on the lent tables, and writes their answers. N, M, R and the installed size in bytes come first.
 pub fn celltimber_run(
     pes: u64,
     interrupt_count: u64,
@@ -52,8 +52,8 @@ pub fn celltimber_run(
     run::run(&tables, memory, &mut live, requests, answers)
 }
 
-// The same with a translation cache: memory and cache are lent to be written, and lists have edits and invalidates too. A sequence starts with the invalidate for
-// all, which the caller sends: nothing here empties the cache by itself.
+/// The same with a translation cache: memory and cache are lent to be written, and lists have edits and invalidates too. A sequence starts with the invalidate for
+/// all, which the caller sends: nothing here empties the cache by itself.
 pub fn celltimber_cached_run(
     pes: u64,
     interrupt_count: u64,

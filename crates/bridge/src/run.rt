@@ -15,7 +15,7 @@ pub(crate) fn count_of(requests: usize, answers: usize) -> usize
     (requests / layout::REQUEST_WORDS).min(answers / layout::ANSWER_WORDS)
 }
 
-// As many whole requests as both lists of words hold are served; their number is returned, and all other words stay.
+/// As many whole requests as both lists of words hold are served; their number is returned, and all other words stay.
 pub fn run(
     tables: &Tables<'_>,
     memory: &[u64],

@@ -10,7 +10,7 @@ ghost use Rattle.tables.specs.Tables.{tables, live};
 
 use bridge::export;
 
-// Serves the requests in `requests` on the lent tables, and writes their answers. N, M, R and the installed size in bytes come first.
+/// Serves the requests in `requests` on the lent tables, and writes their answers. N, M, R and the installed size in bytes come first.
 #[unsafe(no_mangle)]
 pub extern "C" fn celltimber_run(
     pes: u64,
@@ -48,8 +48,8 @@ pub extern "C" fn celltimber_run(
     )
 }
 
-// The same with a translation cache: memory and cache are lent to be written, and lists have edits and invalidates too. A sequence starts with the invalidate for
-// all, which the caller sends: nothing here empties the cache by itself.
+/// The same with a translation cache: memory and cache are lent to be written, and lists have edits and invalidates too. A sequence starts with the invalidate for
+/// all, which the caller sends: nothing here empties the cache by itself.
 #[unsafe(no_mangle)]
 pub extern "C" fn celltimber_cached_run(
     pes: u64,

@@ -77,7 +77,7 @@ fn found_by(
     dma::reached(installed, pe, dma, translated, words)
 }
 
-// The outcome of a hit whose word permits the DMA; without one the page is walked. No memory is lent. The installed size comes first.
+/// The outcome of a hit whose word permits the DMA; without one the page is walked. No memory is lent. The installed size comes first.
 // Kept: PE, entry and DMA as three, as the definition's check of a walk has them (crates/kinds/src/outcome.rt, `Check::Walk`).
 #[inline(always)]
 #[tactic(auto, unfolding(crate::specs::Quick::quick_for, cache::specs::Cache::is_hit, cache::specs::Cache::found_by))]
@@ -121,7 +121,7 @@ fn content_of(found: Result<Frame, WalkError>) -> u64
     found.map_or(0, |frame| frame.content)
 }
 
-// The walk, the only reader of memory; the slot of its page is filled where the DMA passes.
+/// The walk, the only reader of memory; the slot of its page is filled where the DMA passes.
 #[inline(always)]
 #[tactic(auto, using(crate::proofs::CacheDmaLaws::finish_is), unfolding(cache::specs::Cache::filled))]
 pub fn walk_and_fill(

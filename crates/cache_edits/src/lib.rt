@@ -16,7 +16,7 @@ use kinds::request::Scope;
 use outcomes;
 use tables::words::put;
 
-// The word is written, and each slot whose walk reads it in memory as it was before is emptied. `pes` is N.
+/// The word is written, and each slot whose walk reads it in memory as it was before is emptied. `pes` is N.
 // Kept: N, the lists and the word one by one, as the clause `Edited` has them.
 pub fn edit(
     pes: u16,
@@ -36,7 +36,7 @@ pub fn edit(
     Answer::Done
 }
 
-// Each slot that the scope names is emptied, where it names no PE or one below N.
+/// Each slot that the scope names is emptied, where it names no PE or one below N.
 pub fn invalidate(pes: u16, entries: &[u64], cache: &mut [u64], scope: Scope) -> Answer
     ensures { Invalidated pes entries.now cache.old scope result cache.new }
 {

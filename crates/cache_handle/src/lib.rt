@@ -48,7 +48,7 @@ fn look(installed: u64, cache: &[u64], check: Check) -> Check
     }
 }
 
-// All checks, and the cache. No memory is lent: `memory` is its length, in words.
+/// All checks, and the cache. No memory is lent: `memory` is its length, in words.
 #[inline(always)]
 pub fn check(
     tables: &Tables<'_>,
@@ -81,7 +81,7 @@ fn walk(
     cache_dma::walk_and_fill(tables.installed, memory, cache, pe, entry, dma)
 }
 
-// A request of the bridge with a cache. Memory is not written.
+/// A request of the bridge with a cache. Memory is not written.
 #[inline(always)]
 pub fn serve(
     tables: &Tables<'_>,
@@ -143,8 +143,8 @@ fn invalidate(pes: u16, tables: &Tables<'_>, cache: &mut [u64], scope: Scope) ->
     cache_edits::invalidate(pes, tables.entries, cache, scope)
 }
 
-// An operation of a kind that the bridge with a cache alone has: an edit, an invalidate, or words of these kinds that name nothing. State and interrupts are not
-// written. A request is answered here as words that name nothing.
+/// An operation of a kind that the bridge with a cache alone has: an edit, an invalidate, or words of these kinds that name nothing. State and interrupts are not
+/// written. A request is answered here as words that name nothing.
 #[inline(always)]
 pub fn maintain(
     tables: &Tables<'_>,
@@ -165,7 +165,7 @@ pub fn maintain(
     }
 }
 
-// Any operation of the bridge with a cache.
+/// Any operation of the bridge with a cache.
 #[inline(always)]
 pub fn operate(
     tables: &Tables<'_>,

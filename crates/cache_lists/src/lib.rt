@@ -33,7 +33,7 @@ fn scope(number: u64, pe: u64, address: u64) -> Option<Scope>
     }
 }
 
-// The operation that six words name: its kind, and then its numbers.
+/// The operation that six words name: its kind, and then its numbers.
 #[inline(always)]
 #[tactic(auto, unfolding(cache_words::specs::Operations::decoded_operation))]
 pub fn decode_operation(kind: u64, a: u64, b: u64, c: u64, d: u64, e: u64) -> Operation
@@ -49,7 +49,7 @@ pub fn decode_operation(kind: u64, a: u64, b: u64, c: u64, d: u64, e: u64) -> Op
     }
 }
 
-// Operation `k` of a list of words; none where its words are not all there.
+/// Operation `k` of a list of words; none where its words are not all there.
 #[inline(always)]
 #[tactic(auto, unfolding(cache_words::specs::Operations::operation_in))]
 pub fn operation_at(requests: &[u64], k: usize) -> Operation

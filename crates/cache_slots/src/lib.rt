@@ -8,10 +8,10 @@ use cache::limits;
 use kinds::number::{PageNumber, PeNumber};
 use tables::words::{put, word};
 
-// The words of a slot: PE + 1 (0: the slot is empty), half, page number, last-level word.
+/// The words of a slot: PE + 1 (0: the slot is empty), half, page number, last-level word.
 pub const SLOT_WORDS: usize = limits::SLOT_WORDS as usize;
 
-// What a slot holds: a page of a PE, in the half of its two records that bit 59 of an address picks.
+/// What a slot holds: a page of a PE, in the half of its two records that bit 59 of an address picks.
 #[derive(Clone, Copy, Debug, PartialEq, Eq)]
 pub struct Key {
     pub pe: PeNumber,
@@ -19,7 +19,7 @@ pub struct Key {
     pub page: PageNumber,
 }
 
-// The slot that the rule chooses for a page.
+/// The slot that the rule chooses for a page.
 #[inline(always)]
 #[tactic(auto, using(crate::proofs::SlotLaws::slot_is))]
 pub fn slot_of(key: Key) -> u8
@@ -29,7 +29,7 @@ pub fn slot_of(key: Key) -> u8
     ((key.page.0 % limits::SLOT_COUNT + limits::SLOT_FACTOR * record) % limits::SLOT_COUNT) as u8
 }
 
-// Whether a slot holds this page.
+/// Whether a slot holds this page.
 #[inline(always)]
 #[tactic(auto, unfolding(cache::specs::Slots::holds))]
 pub fn is_held(cache: &[u64], slot: u8, key: Key) -> bool
@@ -41,7 +41,7 @@ pub fn is_held(cache: &[u64], slot: u8, key: Key) -> bool
         && word(cache, first + 2) == key.page.0
 }
 
-// The last-level word of a slot.
+/// The last-level word of a slot.
 #[inline(always)]
 pub fn word_of(cache: &[u64], slot: u8) -> u64
     ensures { result ≡ word_of cache.now slot }
@@ -49,7 +49,7 @@ pub fn word_of(cache: &[u64], slot: u8) -> u64
     word(cache, usize::from(slot) * SLOT_WORDS + 3)
 }
 
-// A slot then holds this page, with its word.
+/// A slot then holds this page, with its word.
 #[inline(always)]
 #[tactic(auto, unfolding(cache::specs::Slots::put))]
 pub fn fill(cache: &mut [u64], slot: u8, key: Key, value: u64)

@@ -16,21 +16,21 @@ use dma_walk::touch::touches;
 use kinds::number::{ByteAddress, PageNumber, PeNumber};
 use tables::words::{put, word};
 
-// Each full slot is emptied.
+/// Each full slot is emptied.
 pub fn drop_all(cache: &mut [u64])
     ensures { cache.new ≡ sweep any_slot cache.old }
 {
     sweep(cache, |_tag, _half, _page| true);
 }
 
-// Each slot of a PE is emptied.
+/// Each slot of a PE is emptied.
 pub fn drop_pe(cache: &mut [u64], pe: u64)
     ensures { cache.new ≡ sweep (its_slots pe) cache.old }
 {
     sweep(cache, |tag, _half, _page| of_pe(pe, tag));
 }
 
-// The page around an address is dropped, by the record that bit 59 picks, where that has pages. Its window is not asked for.
+/// The page around an address is dropped, by the record that bit 59 picks, where that has pages. Its window is not asked for.
 #[tactic(auto, unfolding(crate::specs::Drops::page_slot, crate::specs::Drops::of_page))]
 pub fn drop_page(entries: &[u64], cache: &mut [u64], pe: PeNumber, address: ByteAddress)
     ensures { cache.new ≡ sweep (page_slot entries.now pe address) cache.old }
@@ -45,7 +45,7 @@ pub fn drop_page(entries: &[u64], cache: &mut [u64], pe: PeNumber, address: Byte
     });
 }
 
-// Each slot is emptied whose page is walked through a memory word; `pes` is N.
+/// Each slot is emptied whose page is walked through a memory word; `pes` is N.
 // Kept: N, the lists and the word one by one, as the definition `through` takes them.
 pub fn drop_through(pes: u16, entries: &[u64], memory: &[u64], cache: &mut [u64], word: u64)
     ensures { cache.new ≡ sweep (through (of_entries pes entries.now) memory.now word) cache.old }

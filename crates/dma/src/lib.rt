@@ -74,7 +74,7 @@ fn outcome_of(
     }
 }
 
-// The same, after the last test.
+/// The same, after the last test.
 // Kept: the parameters of the definition's `reached`, one by one; `unwalked` hands them on.
 #[inline(always)]
 pub fn reached(
@@ -167,7 +167,7 @@ fn by_class(tables: &Tables<'_>, live: &Live<'_>, pe: PeNumber, dma: DmaRequest)
     }
 }
 
-// A DMA of a PE, as far as no memory is read; one of a stopped PE is refused.
+/// A DMA of a PE, as far as no memory is read; one of a stopped PE is refused.
 #[inline(always)]
 #[tactic(auto, unfolding(profile::specs::Step::dma_asked))]
 pub fn check_dma(
@@ -185,7 +185,7 @@ pub fn check_dma(
     Ok(by_class(tables, live, pe, dma))
 }
 
-// A DMA of a PE by the walk of its page: the only reader of memory. The installed size comes first.
+/// A DMA of a PE by the walk of its page: the only reader of memory. The installed size comes first.
 // Kept: PE, entry and DMA as three, as the definition's check of a walk has them (crates/kinds/src/outcome.rt, `Check::Walk`).
 #[inline(always)]
 #[tactic(auto, unfolding(profile::specs::Step::finish))]

@@ -15,7 +15,7 @@ const ENTRY_WORDS: usize = limits::ENTRY_WORDS as usize;
 // The words of one record.
 const RECORD_WORDS: usize = limits::RECORD_WORDS as usize;
 
-// The class of an address, by its top four bits.
+/// The class of an address, by its top four bits.
 #[inline(always)]
 #[tactic(auto, unfolding(profile::specs::Entry::class_of, crate::specs::Class::low_class))]
 pub fn class_of(address: ByteAddress) -> AddressClass
@@ -40,7 +40,7 @@ fn low_class(address: ByteAddress) -> AddressClass
     }
 }
 
-// The low 59 bits of an address.
+/// The low 59 bits of an address.
 #[inline(always)]
 pub fn offset_of(address: ByteAddress) -> ByteAddress
     ensures { result ≡ offset address }
@@ -48,7 +48,7 @@ pub fn offset_of(address: ByteAddress) -> ByteAddress
     ByteAddress(address.0 & 0x7FF_FFFF_FFFF_FFFF)
 }
 
-// Bit 59 of an address: 0 picks the first record of a PE, 1 the second.
+/// Bit 59 of an address: 0 picks the first record of a PE, 1 the second.
 #[inline(always)]
 pub fn half_of(address: ByteAddress) -> u64
     ensures { result ≡ half address }
@@ -56,7 +56,7 @@ pub fn half_of(address: ByteAddress) -> u64
     (address.0 >> 59) % 2
 }
 
-// The record of a PE that an address picks. A word that the table does not have is 0.
+/// The record of a PE that an address picks. A word that the table does not have is 0.
 #[inline(always)]
 pub fn entry_of(entries: &[u64], pe: PeNumber, address: ByteAddress) -> TranslationEntry
     ensures { result ≡ entry_in entries.now pe (half address) }

@@ -11,7 +11,7 @@ use profile::limits::MOST_TABLE_CODE;
 // The largest end of a bypass, in units of 16 MiB: 2^35 of them are 2^59 bytes.
 const MOST_UNITS: u64 = 0x8_0000_0000;
 
-// The way of an offset by an entry: the page table is walked, or the offset is the system address.
+/// The way of an offset by an entry: the page table is walked, or the offset is the system address.
 #[derive(Clone, Copy, Debug, PartialEq, Eq)]
 pub enum Way {
     // Kept: the page size, which the definition `asked_pages` gives, though no caller reads it.
@@ -19,7 +19,7 @@ pub enum Way {
     Bypass,
 }
 
-// A bad entry, and an offset outside the window of a good one, are refused for that reason.
+/// A bad entry, and an offset outside the window of a good one, are refused for that reason.
 #[inline(always)]
 #[tactic(auto, unfolding(profile::specs::Entry::table_good))]
 pub fn ask(entry: TranslationEntry, offset: ByteAddress) -> Result<Way, Reason>

@@ -11,14 +11,14 @@ use profile::limits::{CODE_BITS, MOST_LEVELS, MOST_TABLE_CODE, OFFSET_BITS};
 // The most bits of an index for which the bytes of a table are a number of 64 bits.
 const MOST_BITS: u64 = 60;
 
-// The page size of a table, and the sum of the bits of its pages and indexes.
+/// The page size of a table, and the sum of the bits of its pages and indexes.
 #[derive(Clone, Copy, Debug, PartialEq, Eq)]
 pub struct Shape {
     pub size: PageSize,
     pub span: u64,
 }
 
-// Whether a base is a multiple of the bytes of a table of 2^bits words.
+/// Whether a base is a multiple of the bytes of a table of 2^bits words.
 #[inline(always)]
 pub fn aligned(bits: u64, base: ByteAddress) -> bool
     ensures { result ≡ aligned bits base }
@@ -30,7 +30,7 @@ pub fn aligned(bits: u64, base: ByteAddress) -> bool
     }
 }
 
-// The page size of an entry; of a page code that is not known it is 256 MiB.
+/// The page size of an entry; of a page code that is not known it is 256 MiB.
 #[inline(always)]
 #[tactic(auto, unfolding(profile::specs::Entry::page_size))]
 pub fn size_of(entry: TranslationEntry) -> PageSize
@@ -39,7 +39,7 @@ pub fn size_of(entry: TranslationEntry) -> PageSize
     PageSize::try_from(entry.page).unwrap_or(PageSize::M256)
 }
 
-// Whether the table of an entry can be walked at all.
+/// Whether the table of an entry can be walked at all.
 #[inline(always)]
 #[tactic(auto, unfolding(profile::specs::Entry::walkable))]
 pub fn is_walkable(entry: TranslationEntry) -> bool
@@ -51,7 +51,7 @@ pub fn is_walkable(entry: TranslationEntry) -> bool
         && aligned(entry.table + CODE_BITS, ByteAddress(entry.base))
 }
 
-// The shape that an entry gives its table; one that is bad, or whose table code is above the largest, gives none.
+/// The shape that an entry gives its table; one that is bad, or whose table code is above the largest, gives none.
 #[inline(always)]
 #[tactic(auto, using(crate::proofs::ShapeLaws::known_page, crate::proofs::ShapeLaws::unknown_page), unfolding(profile::specs::Entry::pages_good))]
 pub fn shape_of(entry: TranslationEntry) -> Option<Shape>
@@ -70,7 +70,7 @@ pub fn shape_of(entry: TranslationEntry) -> Option<Shape>
     Some(Shape { size, span })
 }
 
-// Whether an entry is good and has pages.
+/// Whether an entry is good and has pages.
 #[inline(always)]
 #[tactic(auto, using(crate::proofs::ShapeLaws::no_bypass), unfolding(profile::specs::Entry::paged, profile::specs::Entry::table_good))]
 pub fn is_paged(entry: TranslationEntry) -> bool

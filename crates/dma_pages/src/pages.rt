@@ -17,7 +17,7 @@ pub(crate) fn page_bits(size: PageSize) -> u64
     }
 }
 
-// The page that an address lies in.
+/// The page that an address lies in.
 #[inline(always)]
 pub fn page_number(size: PageSize, address: ByteAddress) -> PageNumber
     ensures { result ≡ page_number size address }
@@ -26,7 +26,7 @@ pub fn page_number(size: PageSize, address: ByteAddress) -> PageNumber
     PageNumber(address.0 >> bits)
 }
 
-// The address in a page that has the offset of `inside` in its own page, cut to 64 bits.
+/// The address in a page that has the offset of `inside` in its own page, cut to 64 bits.
 #[inline(always)]
 #[tactic(auto, using(crate::proofs::PageLaws::joined_at))]
 pub fn byte_address(size: PageSize, page: PageNumber, inside: ByteAddress) -> ByteAddress

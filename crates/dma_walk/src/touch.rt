@@ -10,7 +10,7 @@ use kinds::number::{ByteAddress, PageNumber};
 use kinds::record::TranslationEntry;
 use profile::limits::CODE_BITS;
 
-// By any entry; by one whose table cannot be walked nothing is read.
+/// By any entry; by one whose table cannot be walked nothing is read.
 #[inline(always)]
 #[tactic(auto, unfolding(kinds::specs::Has::has))]
 pub fn touches(memory: &[u64], entry: TranslationEntry, page: PageNumber, word: u64) -> bool

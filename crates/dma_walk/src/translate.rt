@@ -12,14 +12,14 @@ use kinds::number::{ByteAddress, PageSize};
 use kinds::record::TranslationEntry;
 use kinds::request::Direction;
 
-// The system address or the fault, and the count of table words read.
+/// The system address or the fault, and the count of table words read.
 #[derive(Clone, Copy, Debug, PartialEq, Eq)]
 pub struct Translation {
     pub result: Result<ByteAddress, Fault>,
     pub words: u64,
 }
 
-// The translation of an offset by the walk of its page, the only reader of memory.
+/// The translation of an offset by the walk of its page, the only reader of memory.
 #[inline(always)]
 #[tactic(auto, unfolding(profile::specs::Walk::by_pages))]
 pub fn translate(
@@ -38,7 +38,7 @@ pub fn translate(
     }
 }
 
-// What a walk found, for an offset. No memory is lent.
+/// What a walk found, for an offset. No memory is lent.
 #[inline(always)]
 #[tactic(auto, using(crate::proofs::TranslateLaws::lands), unfolding(profile::specs::Walk::landed))]
 pub fn land(
@@ -78,7 +78,7 @@ fn fault_of(error: WalkError) -> Fault
     }
 }
 
-// Bit 0 is read-valid, bit 1 write-valid.
+/// Bit 0 is read-valid, bit 1 write-valid.
 #[inline(always)]
 #[tactic(auto, unfolding(profile::specs::Walk::allows))]
 pub fn allows(direction: Direction, word: u64) -> bool

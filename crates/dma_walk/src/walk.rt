@@ -11,7 +11,7 @@ use kinds::number::{ByteAddress, NO_WORD, PageNumber};
 use kinds::record::TranslationEntry;
 use profile::limits::{CODE_BITS, WORD_BYTES};
 
-// What a walk found, and the count of words that it read.
+/// What a walk found, and the count of words that it read.
 #[derive(Clone, Copy, Debug, PartialEq, Eq)]
 pub struct Walked {
     pub found: Result<Frame, WalkError>,
@@ -121,7 +121,7 @@ fn walk(memory: &[u64], entry: TranslationEntry, page: PageNumber) -> Walked
     }
 }
 
-// The walk of a page by any entry; by one whose table cannot be walked nothing is read.
+/// The walk of a page by any entry; by one whose table cannot be walked nothing is read.
 #[inline(always)]
 pub fn walk_page(memory: &[u64], entry: TranslationEntry, page: PageNumber) -> Walked
     ensures { result ≡ counted (walked_page memory.now entry page) }

@@ -35,7 +35,7 @@ fn taken(peers: &[u64], pe: PeNumber, with_peers: bool) -> [u64; 4]
     }
 }
 
-// An effect at a PE. N comes first.
+/// An effect at a PE. N comes first.
 #[inline(always)]
 #[tactic(auto, unfolding(profile::specs::Step::act, profile::specs::Step::whole))]
 pub fn act_at(pes: u64, peers: &[u64], live: &mut Live<'_>, pe: PeNumber, effect: Effect)
@@ -60,7 +60,7 @@ pub fn act_at(pes: u64, peers: &[u64], live: &mut Live<'_>, pe: PeNumber, effect
     }
 }
 
-// An outcome of a PE: its effect is done, and its answer returned.
+/// An outcome of a PE: its effect is done, and its answer returned.
 #[inline(always)]
 pub fn carry_out(tables: &Tables<'_>, live: &mut Live<'_>, pe: PeNumber, outcome: Outcome) -> Answer
     ensures answers { result ≡ outcome.answer }
@@ -70,7 +70,7 @@ pub fn carry_out(tables: &Tables<'_>, live: &mut Live<'_>, pe: PeNumber, outcome
     outcome.answer
 }
 
-// The fence bit becomes `bit`, which is done.
+/// The fence bit becomes `bit`, which is done.
 #[inline(always)]
 #[tactic(auto, unfolding(profile::specs::Step::whole))]
 pub fn change_fence(tables: &Tables<'_>, live: &mut Live<'_>, bit: bool) -> Answer
@@ -81,7 +81,7 @@ pub fn change_fence(tables: &Tables<'_>, live: &mut Live<'_>, bit: bool) -> Answ
     Answer::Done
 }
 
-// A DMA of a PE by the walk of its page: the only reader of memory.
+/// A DMA of a PE by the walk of its page: the only reader of memory.
 #[inline(always)]
 pub fn walk(
     tables: &Tables<'_>,
@@ -95,7 +95,7 @@ pub fn walk(
     dma::finish_walk(tables.installed, memory, pe, entry, dma)
 }
 
-// Any request on any tables.
+/// Any request on any tables.
 #[inline(always)]
 pub fn handle(tables: &Tables<'_>, memory: &[u64], live: &mut Live<'_>, request: Request) -> Answer
     ensures handled { Handled tables.now memory.now (seen live.old) request result (seen live.new) }

@@ -56,8 +56,8 @@ fn mark_and_clear(room: &mut Room<'_>, pes: u16, group: &[u64], entries: &[u64])
     table_lists::clear(room.under);
 }
 
-// Marks the words that walks of members read, and no others. `tables` and `under` are room to work in and become 0; nothing is marked where they have not
-// the length of memory.
+/// Marks the words that walks of members read, and no others. `tables` and `under` are room to work in and become 0; nothing is marked where they have not
+/// the length of memory.
 // Kept: the lists one by one, since `celltimber_covers` hands in those of C, of any lengths; `Room` begins where the lengths are tested.
 #[tactic(auto, unfolding(crate::specs::Footprint::members_marks, crate::specs::Footprint::room_after))]
 pub fn mark_members(

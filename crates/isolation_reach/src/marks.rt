@@ -21,7 +21,7 @@ const MSI_PAGE_64K: u64 = 0xFFFF;
 
 const MSI_PAGES_64K: u64 = 1;
 
-// Pages that are not walked: the first, and how many.
+/// Pages that are not walked: the first, and how many.
 #[derive(Clone, Copy, Debug, PartialEq, Eq)]
 pub struct Gap {
     pub page: u64,

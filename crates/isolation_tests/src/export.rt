@@ -38,8 +38,8 @@ fn scope_number(pes: u16, scope: Scope) -> u64
     }
 }
 
-// The number of the PE that owns the request of six words, or the operation on the bridge with a translation cache. 65,536 for nobody, for an edit, whose owner
-// is asked of the group by `celltimber_covers`, and where N is above its limit. N, M and R come first.
+/// The number of the PE that owns the request of six words, or the operation on the bridge with a translation cache. 65,536 for nobody, for an edit, whose owner
+/// is asked of the group by `celltimber_covers`, and where N is above its limit. N, M and R come first.
 #[tactic(auto, using(crate::proofs::Laws::past_nobody), unfolding(crate::specs::Group::operation_number_in, crate::specs::Group::owner_number_in))]
 pub fn celltimber_owner(
     pes: u64,
@@ -78,7 +78,7 @@ pub fn celltimber_owner(
     }
 }
 
-// 1 if the number is that of a member of the group, else 0.
+/// 1 if the number is that of a member of the group, else 0.
 #[tactic(auto, unfolding(crate::specs::Group::flag))]
 pub fn celltimber_member(group: &[u64], number: u64) -> u64
     ensures { result ≡ flag (member_of group.now number) }
@@ -86,7 +86,7 @@ pub fn celltimber_member(group: &[u64], number: u64) -> u64
     u64::from(isolation_groups::is_member(group, number))
 }
 
-// 1 if no PE below N outside the group lists a member below N in its peer vector, else 0. 0 also where N is above its limit.
+/// 1 if no PE below N outside the group lists a member below N in its peer vector, else 0. 0 also where N is above its limit.
 #[tactic(auto, unfolding(crate::specs::Group::flag, crate::specs::Group::closed))]
 pub fn celltimber_closed(pes: u64, peers: &[u64], group: &[u64]) -> u64
     ensures { result ≡ flag (closed pes group.now peers.now) }
@@ -106,8 +106,8 @@ fn is_coverable(pes: u64, marks: &[u64], tables: &[u64], under: &[u64], memory: 
         && under.len() == memory.len()
 }
 
-// Marks exactly the memory words that a walk of a member below N reads for some address of the DMA class: each other word of `marks` becomes 0. `tables` and
-// `under` are room to work in and become 0. 1, or 0 where N is above its limit or one of the three has not the length of memory; all three are then as they were.
+/// Marks exactly the memory words that a walk of a member below N reads for some address of the DMA class: each other word of `marks` becomes 0. `tables` and
+/// `under` are room to work in and become 0. 1, or 0 where N is above its limit or one of the three has not the length of memory; all three are then as they were.
 #[tactic(auto, using(crate::proofs::Laws::few))]
 pub fn celltimber_covers(
     pes: u64,
@@ -127,7 +127,7 @@ pub fn celltimber_covers(
     1
 }
 
-// 1 if word `index` of a table is public or the group's, else 0. N comes first.
+/// 1 if word `index` of a table is public or the group's, else 0. N comes first.
 #[tactic(auto, unfolding(crate::specs::Group::flag))]
 pub fn celltimber_seen(
     pes: u64,

@@ -11,8 +11,8 @@ ghost use Rattle.isolation_tests.specs.Seen.{seen};
 
 use isolation_tests::export;
 
-// The number of the PE that owns the request of six words, or the operation on the bridge with a translation cache. 65,536 for nobody, for an edit, whose owner
-// is asked of the group by `celltimber_covers`, and where N is above its limit. N, M and R come first.
+/// The number of the PE that owns the request of six words, or the operation on the bridge with a translation cache. 65,536 for nobody, for an edit, whose owner
+/// is asked of the group by `celltimber_covers`, and where N is above its limit. N, M and R come first.
 #[unsafe(no_mangle)]
 pub extern "C" fn celltimber_owner(
     pes: u64,
@@ -48,7 +48,7 @@ pub extern "C" fn celltimber_owner(
     )
 }
 
-// 1 if the number is that of a member of the group, else 0.
+/// 1 if the number is that of a member of the group, else 0.
 #[unsafe(no_mangle)]
 pub extern "C" fn celltimber_member(group: &[u64], number: u64) -> u64
     ensures { result ≡ flag (member_of group.now number) }
@@ -56,7 +56,7 @@ pub extern "C" fn celltimber_member(group: &[u64], number: u64) -> u64
     export::celltimber_member(group, number)
 }
 
-// 1 if no PE below N outside the group lists a member below N in its peer vector, else 0. 0 also where N is above its limit.
+/// 1 if no PE below N outside the group lists a member below N in its peer vector, else 0. 0 also where N is above its limit.
 #[unsafe(no_mangle)]
 pub extern "C" fn celltimber_closed(pes: u64, peers: &[u64], group: &[u64]) -> u64
     ensures { result ≡ flag (closed pes group.now peers.now) }
@@ -64,8 +64,8 @@ pub extern "C" fn celltimber_closed(pes: u64, peers: &[u64], group: &[u64]) -> u
     export::celltimber_closed(pes, peers, group)
 }
 
-// Marks exactly the memory words that a walk of a member below N reads for some address of the DMA class: each other word of `marks` becomes 0. `tables` and
-// `under` are room to work in and become 0. 1, or 0 where N is above its limit or one of the three has not the length of memory; all three are then as they were.
+/// Marks exactly the memory words that a walk of a member below N reads for some address of the DMA class: each other word of `marks` becomes 0. `tables` and
+/// `under` are room to work in and become 0. 1, or 0 where N is above its limit or one of the three has not the length of memory; all three are then as they were.
 #[unsafe(no_mangle)]
 pub extern "C" fn celltimber_covers(
     pes: u64,
@@ -81,7 +81,7 @@ pub extern "C" fn celltimber_covers(
     export::celltimber_covers(pes, entries, memory, group, marks, tables, under)
 }
 
-// 1 if word `index` of a table is public or the group's, else 0. N comes first.
+/// 1 if word `index` of a table is public or the group's, else 0. N comes first.
 #[unsafe(no_mangle)]
 pub extern "C" fn celltimber_seen(
     pes: u64,

@@ -3,7 +3,7 @@ ghost use Rattle.std.specs.Prelude.{◌≡◌};
 
 use crate::number::{ByteAddress, PeNumber};
 
-// Why a request is refused or a PE is frozen, with its number in the table of answers.
+/// Why a request is refused or a PE is frozen, with its number in the table of answers.
 #[derive(Clone, Copy, Debug, PartialEq, Eq)]
 pub enum Reason {
     TableLength = 1,
@@ -25,8 +25,8 @@ pub enum Reason {
     Fenced = 18,
 }
 
-// `Ones` and `Drop` are a load and a store that a stop bit or the fence keeps from the device, by their reason. A refusal has the count of table words
-// read, and the address of the table word that failed, 0 where none did.
+/// `Ones` and `Drop` are a load and a store that a stop bit or the fence keeps from the device, by their reason. A refusal has the count of table words
+/// read, and the address of the table word that failed, 0 where none did.
 #[derive(Clone, Copy, Debug, PartialEq, Eq)]
 pub enum Answer {
     Pass {
@@ -57,7 +57,7 @@ pub enum Answer {
     Done,
 }
 
-// An answer as numbers. `name` is 0 pass, 1 msi, 2 held, 3 ones, 4 drop, 5 refuse, 6 done.
+/// An answer as numbers. `name` is 0 pass, 1 msi, 2 held, 3 ones, 4 drop, 5 refuse, 6 done.
 #[derive(Clone, Copy, Debug, PartialEq, Eq)]
 pub struct Numbers {
     pub name: u64,

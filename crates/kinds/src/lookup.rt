@@ -3,28 +3,28 @@
 use crate::answer::Reason;
 use crate::number::ByteAddress;
 
-// The first open window that covers an address: the number that it gives as its PE, below N or not, and the PCI address.
+/// The first open window that covers an address: the number that it gives as its PE, below N or not, and the PCI address.
 #[derive(Clone, Copy, Debug, PartialEq, Eq)]
 pub struct Hit {
     pub pe: u64,
     pub pci: ByteAddress,
 }
 
-// The last table word of a walk: its address and its content.
+/// The last table word of a walk: its address and its content.
 #[derive(Clone, Copy, Debug, PartialEq, Eq)]
 pub struct Frame {
     pub word: ByteAddress,
     pub content: u64,
 }
 
-// Why a walk has no last table word: the word at this address forbids, or is outside memory.
+/// Why a walk has no last table word: the word at this address forbids, or is outside memory.
 #[derive(Clone, Copy, Debug, PartialEq, Eq)]
 pub enum WalkError {
     Forbidden { word: ByteAddress },
     Outside { word: ByteAddress },
 }
 
-// Why there is no system address: the reason, and the address of the table word that failed, 0 where no word was asked for.
+/// Why there is no system address: the reason, and the address of the table word that failed, 0 where no word was asked for.
 #[derive(Clone, Copy, Debug, PartialEq, Eq)]
 pub struct Fault {
     pub reason: Reason,

@@ -1,24 +1,24 @@
 // A byte address, a page number and a PE number: three kinds of value. The first two come from each other by a page size.
 
-// An address that counts bytes: on the PCI side or in system memory.
+/// An address that counts bytes: on the PCI side or in system memory.
 #[derive(Clone, Copy, Debug, PartialEq, Eq)]
 pub struct ByteAddress(pub u64);
 
-// The address that stands where no word of memory is named.
+/// The address that stands where no word of memory is named.
 pub const NO_WORD: ByteAddress = ByteAddress(0);
 
-// An address that counts pages of one size.
+/// An address that counts pages of one size.
 #[derive(Clone, Copy, Debug, PartialEq, Eq)]
 pub struct PageNumber(pub u64);
 
-// The number of a partitionable endpoint.
+/// The number of a partitionable endpoint.
 #[derive(Clone, Copy, Debug, PartialEq, Eq)]
 pub struct PeNumber(pub u16);
 
-// No PE has this number.
+/// No PE has this number.
 pub const NO_PE: u64 = 0x1_0000;
 
-// The four page sizes: 4 KiB, 64 KiB, 16 MiB and 256 MiB.
+/// The four page sizes: 4 KiB, 64 KiB, 16 MiB and 256 MiB.
 #[derive(Clone, Copy, Debug, PartialEq, Eq)]
 pub enum PageSize {
     K4,
@@ -48,6 +48,6 @@ impl TryFrom<u64> for PageSize {
     }
 }
 
-// A number that stands for none of the values of a type.
+/// A number that stands for none of the values of a type.
 #[derive(Clone, Copy, Debug, PartialEq, Eq)]
 pub struct Unnamed;

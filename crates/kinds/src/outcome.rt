@@ -4,7 +4,7 @@ use crate::number::{ByteAddress, PeNumber};
 use crate::record::TranslationEntry;
 use crate::request::{DmaRequest, Part};
 
-// What a freeze writes into an empty error record; `word` is the address of the table word that failed, 0 where none did.
+/// What a freeze writes into an empty error record; `word` is the address of the table word that failed, 0 where none did.
 #[derive(Clone, Copy, Debug, PartialEq, Eq)]
 pub struct ErrorRecord {
     pub reason: Reason,
@@ -41,7 +41,7 @@ pub struct Outcome {
     pub effect: Effect,
 }
 
-// What is known of a request before memory is read.
+/// What is known of a request before memory is read.
 #[derive(Clone, Copy, Debug, PartialEq, Eq)]
 pub enum Check {
     // It is answered, and nothing is done.

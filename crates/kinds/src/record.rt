@@ -1,6 +1,6 @@
 // The sizes of the lent tables, and their records word by word.
 
-// The numbers that are given with the tables: N, M and R.
+/// The numbers that are given with the tables: N, M and R.
 #[derive(Clone, Copy, Debug, PartialEq, Eq)]
 pub struct Sizes {
     pub pes: u64,
@@ -8,7 +8,7 @@ pub struct Sizes {
     pub requesters: u64,
 }
 
-// The lengths of the lent tables.
+/// The lengths of the lent tables.
 #[derive(Clone, Copy, Debug, PartialEq, Eq)]
 pub struct Lengths {
     pub requesters: u64,
@@ -21,7 +21,7 @@ pub struct Lengths {
     pub state: u64,
 }
 
-// A translation entry. In a bypass, `base` and `levels` are its start and its end.
+/// A translation entry. In a bypass, `base` and `levels` are its start and its end.
 #[derive(Clone, Copy, Debug, PartialEq, Eq)]
 pub struct TranslationEntry {
     pub base: u64,
@@ -30,7 +30,7 @@ pub struct TranslationEntry {
     pub page: u64,
 }
 
-// An interrupt. `bits` is 2P + Q.
+/// An interrupt. `bits` is 2P + Q.
 #[derive(Clone, Copy, Debug, PartialEq, Eq)]
 pub struct Interrupt {
     pub pe: u64,
@@ -39,7 +39,7 @@ pub struct Interrupt {
     pub bits: u64,
 }
 
-// An M64 window.
+/// An M64 window.
 #[derive(Clone, Copy, Debug, PartialEq, Eq)]
 pub struct Window {
     pub base: u64,

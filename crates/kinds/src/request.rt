@@ -27,7 +27,7 @@ impl TryFrom<u64> for Direction {
     }
 }
 
-// What an address of a DMA asks for, by its top four bits.
+/// What an address of a DMA asks for, by its top four bits.
 #[derive(Clone, Copy, Debug, PartialEq, Eq)]
 pub enum AddressClass {
     Dma,
@@ -36,7 +36,7 @@ pub enum AddressClass {
     Unserved,
 }
 
-// The part of a PE's state that firmware clears.
+/// The part of a PE's state that firmware clears.
 #[derive(Clone, Copy, Debug, PartialEq, Eq)]
 pub enum Part {
     Mmio,
@@ -64,7 +64,7 @@ impl TryFrom<u64> for Part {
     }
 }
 
-// A DMA, or an MSI by its address.
+/// A DMA, or an MSI by its address.
 #[derive(Clone, Copy, Debug, PartialEq, Eq)]
 pub struct DmaRequest {
     pub requester: u64,
@@ -91,7 +91,7 @@ pub enum Request {
     Unnamed,
 }
 
-// What an invalidate of the translation cache names: all that it holds, what it holds of a PE, or of the page around an address of a PE.
+/// What an invalidate of the translation cache names: all that it holds, what it holds of a PE, or of the page around an address of a PE.
 #[derive(Clone, Copy, Debug, PartialEq, Eq)]
 pub enum Scope {
     All,
@@ -99,7 +99,7 @@ pub enum Scope {
     Address { pe: u64, address: ByteAddress },
 }
 
-// What is asked of the bridge with a translation cache: a request, an edit of a word of memory, or an invalidate.
+/// What is asked of the bridge with a translation cache: a request, an edit of a word of memory, or an invalidate.
 #[derive(Clone, Copy, Debug, PartialEq, Eq)]
 pub enum Operation {
     Plain(Request),

@@ -19,8 +19,8 @@ use replay_tables::lent::Lent;
 // The bytes of a line that are kept: a longer line is bad, and so are its first bytes.
 pub(crate) const LINE_KEPT: usize = 128;
 
-// What became of a piece: so many bytes of it were taken, and the output ends at `at`. Fewer bytes than there are: the next one ends a line, and the
-// output, the count of output lines or the tables have no room for it.
+/// What became of a piece: so many bytes of it were taken, and the output ends at `at`. Fewer bytes than there are: the next one ends a line, and the
+/// output, the count of output lines or the tables have no room for it.
 #[derive(Clone, Copy, Debug, PartialEq, Eq)]
 pub struct Fed {
     pub progress: Progress,
@@ -28,7 +28,7 @@ pub struct Fed {
     pub at: usize,
 }
 
-// No buffer of 128 bytes for the line, or more pending than it holds; nothing was done.
+/// No buffer of 128 bytes for the line, or more pending than it holds; nothing was done.
 #[derive(Clone, Copy, Debug, PartialEq, Eq)]
 pub struct Unfit;
 
@@ -50,7 +50,7 @@ pub(crate) struct Moved {
     pub(crate) limit: usize,
 }
 
-// Before the first byte. All lent tables may hold anything.
+/// Before the first byte. All lent tables may hold anything.
 pub fn start() -> Progress
     ensures { Started result }
 {
@@ -75,7 +75,7 @@ fn fit(length: usize, pending: usize) -> bool
     length == LINE_KEPT && pending <= LINE_KEPT
 }
 
-// A piece of the input: its bytes, up to the first line that cannot end.
+/// A piece of the input: its bytes, up to the first line that cannot end.
 pub fn feed(
     mut progress: Progress,
     lent: &mut Lent<'_>,
@@ -107,7 +107,7 @@ pub fn feed(
     })
 }
 
-// The end of the input: a missing line feed where bytes are pending.
+/// The end of the input: a missing line feed where bytes are pending.
 pub fn finish(
     progress: Progress,
     lent: &mut Lent<'_>,

@@ -18,7 +18,7 @@ use replay_text::NoRoom;
 use text_lines;
 use text_report;
 
-// Where a replay stands between two pieces: the extent of the tables, the bytes kept of the line that has not ended, and the count of output lines.
+/// Where a replay stands between two pieces: the extent of the tables, the bytes kept of the line that has not ended, and the count of output lines.
 // Kept: values that are copied from piece to piece; what a piece is lent (tables, line, output) stands beside them in `end_line`, `replay_feed::feed` and `replay_feed::finish`, which may not change.
 #[derive(Clone, Copy, Debug, PartialEq, Eq)]
 pub struct Progress {
@@ -27,7 +27,7 @@ pub struct Progress {
     pub count: u64,
 }
 
-// Where the replay stands after the end of a line, and the end of the output.
+/// Where the replay stands after the end of a line, and the end of the output.
 #[derive(Clone, Copy, Debug, PartialEq, Eq)]
 pub struct Ended {
     pub progress: Progress,
@@ -102,8 +102,8 @@ fn run_pending(
     close_line(out, at, progress.count, replied)
 }
 
-// The end of a line, whose first `progress.pending` bytes are in `line`. Where the output, the count of output lines or the tables have no room for it,
-// nothing is done.
+/// The end of a line, whose first `progress.pending` bytes are in `line`. Where the output, the count of output lines or the tables have no room for it,
+/// nothing is done.
 pub fn end_line(
     progress: Progress,
     lent: &mut Lent<'_>,

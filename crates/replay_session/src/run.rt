@@ -165,7 +165,7 @@ fn run_good(extent: Extent, lent: &mut Lent<'_>, line: Line) -> Replied
     }
 }
 
-// Any line, on any lent tables.
+/// Any line, on any lent tables.
 pub fn run_line(extent: Extent, lent: &mut Lent<'_>, line: Result<Line, BadLine>) -> Replied
     ensures ran { RanLine (whole extent lent.old) line result.reply (whole result.extent lent.new) }
     ensures same { Same lent.old lent.new }

@@ -20,21 +20,21 @@ use size::{clear_all, room_for};
 use table::{set_state, set_word, short};
 use table_lists::{once, used};
 
-// What the last good size line asked for; zeros before the first one.
+/// What the last good size line asked for; zeros before the first one.
 #[derive(Clone, Copy, Debug, PartialEq, Eq)]
 pub struct Extent {
     pub sizes: Sizes,
     pub memory: u64,
 }
 
-// What became of a line: the extent after it, and what it writes.
+/// What became of a line: the extent after it, and what it writes.
 #[derive(Clone, Copy, Debug, PartialEq, Eq)]
 pub struct Replied {
     pub extent: Extent,
     pub reply: Reply,
 }
 
-// How many words of a state of this length are in use: those of the PEs, and the fence word after them; none where there is no PE.
+/// How many words of a state of this length are in use: those of the PEs, and the fence word after them; none where there is no PE.
 pub fn state_used(pes: u64, length: usize) -> usize
     ensures { result ≡ min (state_used pes) length }
 {
@@ -49,7 +49,7 @@ pub fn state_used(pes: u64, length: usize) -> usize
     }
 }
 
-// A set line: a word of a table set. A word that is not in use, or a value too wide for one, is a bad line, and nothing is written.
+/// A set line: a word of a table set. A word that is not in use, or a value too wide for one, is a bad line, and nothing is written.
 pub fn set_in(
     extent: Extent,
     lent: &mut Lent<'_>,
@@ -80,7 +80,7 @@ pub fn set_in(
     }
 }
 
-// A size line: all words of all lists 0; where there is no room for its tables, nothing is done.
+/// A size line: all words of all lists 0; where there is no room for its tables, nothing is done.
 pub fn size_to(extent: Extent, lent: &mut Lent<'_>, asked: Extent) -> Replied
     ensures sized { SizedTo (whole extent lent.old) asked result.reply (whole result.extent lent.new) }
     ensures same { Same lent.old lent.new }

@@ -7,20 +7,20 @@ ghost use Rattle.replay_text.specs.Text.{bad_numbers};
 use kinds::answer::Numbers;
 use kinds::request::Request;
 
-// The byte that parts fields.
+/// The byte that parts fields.
 pub const TAB: u8 = b'\t';
 
-// The byte that ends a line.
+/// The byte that ends a line.
 pub const LINE_FEED: u8 = b'\n';
 
-// The installed size of every replay: 4 GiB.
+/// The installed size of every replay: 4 GiB.
 pub const INSTALLED: u64 = 0x1_0000_0000;
 
 // The number of the name `bad`.
 // Kept: a number, as `Numbers.name` is in the words of C and in the definition `bad_numbers`.
 const BAD: u64 = 7;
 
-// The tables, as a set line names them.
+/// The tables, as a set line names them.
 #[derive(Clone, Copy, Debug, PartialEq, Eq)]
 pub enum Table {
     Requesters,
@@ -33,7 +33,7 @@ pub enum Table {
     State,
 }
 
-// What a line says: a size line with the counts of PEs, interrupts, requesters and memory words, a set line with a word's place in its table, or a request.
+/// What a line says: a size line with the counts of PEs, interrupts, requesters and memory words, a set line with a word's place in its table, or a request.
 #[derive(Clone, Copy, Debug, PartialEq, Eq)]
 pub enum Line {
     Size {
@@ -50,18 +50,18 @@ pub enum Line {
     Request(Request),
 }
 
-// A line of none of these forms.
+/// A line of none of these forms.
 #[derive(Clone, Copy, Debug, PartialEq, Eq)]
 pub struct BadLine;
 
-// What is lent has no room: the tables for a size line, the output for a line, or the count of output lines for one more. Nothing was done.
+/// What is lent has no room: the tables for a size line, the output for a line, or the count of output lines for one more. Nothing was done.
 #[derive(Clone, Copy, Debug, PartialEq, Eq)]
 pub struct NoRoom;
 
-// What a line writes: nothing, or an output line with these numbers.
+/// What a line writes: nothing, or an output line with these numbers.
 pub type Reply = Result<Option<Numbers>, NoRoom>;
 
-// What a bad line answers.
+/// What a bad line answers.
 pub fn bad() -> Numbers
     ensures { result ≡ bad_numbers }
 {

@@ -7,10 +7,10 @@ ghost use Rattle.request_words.specs.Layout.{decoded, decoded_clear, decoded_dma
 use kinds::number::ByteAddress;
 use kinds::request::{Direction, DmaRequest, Part, Request};
 
-// The words of one request in the list of requests.
+/// The words of one request in the list of requests.
 pub const REQUEST_WORDS: usize = 8;
 
-// The words of one answer in the list of answers.
+/// The words of one answer in the list of answers.
 pub const ANSWER_WORDS: usize = 8;
 
 // The kinds of request.
@@ -55,7 +55,7 @@ fn clear(pe: u64, part: u64) -> Option<Request>
     Some(Request::Clear { pe, part })
 }
 
-// The request that six words name: its kind, and then its numbers.
+/// The request that six words name: its kind, and then its numbers.
 #[inline(always)]
 #[tactic(auto, unfolding(request_words::specs::Layout::decoded))]
 pub fn decode(kind: u64, a: u64, b: u64, c: u64, d: u64, e: u64) -> Request

@@ -6,7 +6,7 @@ use crate::layout;
 use kinds::answer::{Answer, Numbers};
 use kinds::request::Request;
 
-// The words of request `k` of a list of words, where they are all there.
+/// The words of request `k` of a list of words, where they are all there.
 #[inline(always)]
 pub fn words_at(requests: &[u64], k: usize) -> Option<&[u64]>
     ensures { option_map (λ r. r.now) result ≡ (if ltb k (length requests.now / request_words) then Some (take request_words (drop (k * request_words) requests.now)) else None) }
@@ -19,7 +19,7 @@ pub fn words_at(requests: &[u64], k: usize) -> Option<&[u64]>
     }
 }
 
-// Request `k` of a list of words; none where its words are not all there.
+/// Request `k` of a list of words; none where its words are not all there.
 #[inline(always)]
 #[tactic(auto, unfolding(request_words::specs::Layout::request_in))]
 pub fn request_at(requests: &[u64], k: usize) -> Request
@@ -31,7 +31,7 @@ pub fn request_at(requests: &[u64], k: usize) -> Request
     }
 }
 
-// An answer written as answer `k` of a list of words; nothing where its words are not all there.
+/// An answer written as answer `k` of a list of words; nothing where its words are not all there.
 #[inline(always)]
 #[tactic(auto, using(crate::proofs::ListLaws::eight_set), unfolding(request_words::specs::Layout::written_in, request_words::specs::Layout::written))]
 pub fn write_answer(answers: &mut [u64], k: usize, answer: Answer)

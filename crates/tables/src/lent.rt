@@ -30,7 +30,7 @@ impl<'a> Model for Tables<'a> {
 }
 
 /// The tables that requests write.
-// No Model: one over `&mut` loses what its maker wrote. `seen` gives its value in clauses.
+/// No Model: one over `&mut` loses what its maker wrote. `seen` gives its value in clauses.
 #[derive(Drop)]
 pub struct Live<'a> {
     pub state: &'a mut [u64],

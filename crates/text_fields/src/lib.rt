@@ -13,7 +13,7 @@ ghost use Rattle.text_fields.specs.Fields.{fields_in, next_value, last_value, af
 use replay_text::{BadLine, TAB};
 use std::marker::Model;
 
-// A value that a field can hold.
+/// A value that a field can hold.
 pub trait FieldValue: Copy {
     // What the text of a field says.
     ghost read: { List ℕ → Option Self };
@@ -23,7 +23,7 @@ pub trait FieldValue: Copy {
         ensures { result ≡ read text.now };
 }
 
-// The fields of a line that are left to read.
+/// The fields of a line that are left to read.
 #[derive(Drop)]
 pub struct Fields<'a> {
     // From the first byte of the next field on; none after the last field.
@@ -40,14 +40,14 @@ impl<'a> Model for Fields<'a> {
 }
 
 impl<'a> Fields<'a> {
-    // The fields of a line, which has one more than it has tabs.
+    /// The fields of a line, which has one more than it has tabs.
     pub fn of(line: &'a [u8]) -> Fields<'a>
         ensures { result ≡ fields_of line.now }
     {
         Fields { rest: Some(line) }
     }
 
-    // The text of the next field; none after the last one.
+    /// The text of the next field; none after the last one.
     pub fn text(&mut self) -> Option<&'a [u8]>
         ensures { MatchOption result ((self.old ≡ []) × (self.new ≡ [])) (λ text. self.old ≡ text.now ∷ self.new) }
     {
@@ -64,7 +64,7 @@ impl<'a> Fields<'a> {
         }
     }
 
-    // The value of the next field; a bad line where there is none, or its text is no such value.
+    /// The value of the next field; a bad line where there is none, or its text is no such value.
     pub fn next<T: FieldValue>(&mut self) -> Result<T, BadLine>
         ensures value { result ≡ next_value T.read self.old }
         ensures left { self.new ≡ after_next self.old }
@@ -73,7 +73,7 @@ impl<'a> Fields<'a> {
         T::in_text(text).ok_or(BadLine)
     }
 
-    // The value of the one field that is left; a bad line where there is none or another after it, or its text is no such value.
+    /// The value of the one field that is left; a bad line where there is none or another after it, or its text is no such value.
     pub fn last<T: FieldValue>(mut self) -> Result<T, BadLine>
         ensures { result ≡ last_value T.read self.entry }
     {
@@ -85,7 +85,7 @@ impl<'a> Fields<'a> {
     }
 }
 
-// Whether a text is this word.
+/// Whether a text is this word.
 // Kept: a function, whose contract gives the equality of the definition; a `==` in place needs the lemma at each use.
 #[tactic(auto, using(crate::proofs::NameLaws::is_equal))]
 pub fn same(text: &[u8], word: &[u8]) -> bool

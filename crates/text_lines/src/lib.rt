@@ -11,19 +11,19 @@ use replay_text::{BadLine, Line};
 use request::read_request;
 use text_fields::{Fields, same};
 
-// The most PEs that a size line can ask for, and at least one.
+/// The most PEs that a size line can ask for, and at least one.
 pub const MOST_PES: u64 = 16;
 
-// The most interrupts.
+/// The most interrupts.
 pub const MOST_INTERRUPTS: u64 = 64;
 
-// The most requesters, and at least one.
+/// The most requesters, and at least one.
 pub const MOST_REQUESTERS: u64 = 64;
 
-// The most words of memory.
+/// The most words of memory.
 pub const MOST_MEMORY: u64 = 4096;
 
-// What a line says, from its bytes without the line feed; a bad line where it is of no form, or a size is past its limit.
+/// What a line says, from its bytes without the line feed; a bad line where it is of no form, or a size is past its limit.
 pub fn parse(line: &[u8]) -> Result<Line, BadLine>
     ensures { result ≡ spec.line_of line.now }
 {

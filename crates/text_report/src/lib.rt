@@ -14,12 +14,12 @@ use kinds::answer::Numbers;
 use output::Output;
 use replay_text::{LINE_FEED, NoRoom};
 
-// No answer's line is longer: three decimal numbers of 20 digits, a name of 6 letters, 16 digits and the 5 bytes that end them.
+/// No answer's line is longer: three decimal numbers of 20 digits, a name of 6 letters, 16 digits and the 5 bytes that end them.
 pub const LINE_MOST: usize = 87;
 
 const HEADER_LENGTH: usize = 28;
 
-// Output line n, after the header: the answer in numbers, or `bad`. The place after it; where too few bytes are free, none is written.
+/// Output line n, after the header: the answer in numbers, or `bad`. The place after it; where too few bytes are free, none is written.
 pub fn write_line(out: &mut [u8], at: usize, n: u64, numbers: Numbers) -> Result<usize, NoRoom>
     ensures { (result ≡ placed spec.line_most out.old at (spec.answer_line n numbers)) × (out.new ≡ written spec.line_most out.old at (spec.answer_line n numbers)) }
 {
@@ -30,7 +30,7 @@ pub fn write_line(out: &mut [u8], at: usize, n: u64, numbers: Numbers) -> Result
     }
 }
 
-// The header. The place after it; where too few bytes are free, none is written.
+/// The header. The place after it; where too few bytes are free, none is written.
 pub fn write_header(out: &mut [u8], at: usize) -> Result<usize, NoRoom>
     ensures { (result ≡ placed (length spec.header) out.old at spec.header) × (out.new ≡ written (length spec.header) out.old at spec.header) }
 {
@@ -41,7 +41,7 @@ pub fn write_header(out: &mut [u8], at: usize) -> Result<usize, NoRoom>
     }
 }
 
-// Whether `length` bytes have room for `most` from place `at` on.
+/// Whether `length` bytes have room for `most` from place `at` on.
 pub fn has_room(length: usize, at: usize, most: usize) -> bool
     ensures { result ≡ leb (at + most) length }
 {
