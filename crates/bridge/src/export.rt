@@ -21,6 +21,7 @@ fn sizes_of(pes: u64, interrupt_count: u64, requester_count: u64) -> Sizes
 }
 
 /// Serves the requests in `requests` on the lent tables, and writes their answers. N, M, R and the installed size in bytes come first.
+// Kept: each function takes its numbers and lists one by one, as the C interface has them (crates/bridge_c), and so makes its `Tables` by itself.
 pub fn celltimber_run(
     pes: u64,
     interrupt_count: u64,

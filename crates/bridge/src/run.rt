@@ -16,6 +16,7 @@ pub(crate) fn count_of(requests: usize, answers: usize) -> usize
 }
 
 /// As many whole requests as both lists of words hold are served; their number is returned, and all other words stay.
+// Kept: this and `cached_run` apart: a loop of three lines each; one over a trait would have a longer head than both.
 pub fn run(
     tables: &Tables<'_>,
     memory: &[u64],

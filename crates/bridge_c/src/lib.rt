@@ -1,5 +1,6 @@
 // The functions of the bridge that Rust and C call, as a static library: numbers and slices only. A slice passes as its first element's address and its length.
 // What each promises is what the function of `bridge` under it promises.
+// Kept: numbers and lists one by one: the C interface.
 #![tactic(auto)]
 
 ghost use Rattle.std.specs.Prelude.{◌≡◌};

@@ -58,23 +58,19 @@ fn place_of(pe: PeNumber, entry: TranslationEntry, address: ByteAddress) -> Plac
     }
 }
 
-// What a DMA comes to by what was found for its page, and the count; `size` is the page size and `offset` that of its address. No memory is lent. The installed size
-// comes first.
-// Kept: the parameters of the definitions `reached` and `landed`, one by one; no other function takes all of them.
+// What a DMA comes to by what was found for its page, and the count. No memory is lent. The installed size comes first.
 #[inline(always)]
 fn found_by(
     installed: u64,
-    pe: PeNumber,
+    at: Place,
     dma: DmaRequest,
-    size: PageSize,
-    offset: ByteAddress,
     found: Result<Frame, WalkError>,
     words: u64,
 ) -> Outcome
-    ensures { result ≡ reached installed pe dma (landed size dma.direction offset found) words }
+    ensures { result ≡ reached installed at.key.pe dma (landed at.size dma.direction at.offset found) words }
 {
-    let translated = translate::land(size, dma.direction, offset, found);
-    dma::reached(installed, pe, dma, translated, words)
+    let translated = translate::land(at.size, dma.direction, at.offset, found);
+    dma::reached(installed, at.key.pe, dma, translated, words)
 }
 
 /// The outcome of a hit whose word permits the DMA; without one the page is walked. No memory is lent. The installed size comes first.
@@ -102,7 +98,7 @@ pub fn look(
         word: NO_WORD,
         content,
     });
-    let outcome = found_by(installed, pe, dma, at.size, at.offset, found, entry.levels);
+    let outcome = found_by(installed, at, dma, found, entry.levels);
     Some(outcome)
 }
 
@@ -137,7 +133,7 @@ pub fn walk_and_fill(
     let at = place_of(pe, entry, dma.address);
     let walked = walk::walk_page(memory, entry, at.key.page);
     let found = walked.found;
-    let outcome = found_by(installed, pe, dma, at.size, at.offset, found, walked.words);
+    let outcome = found_by(installed, at, dma, found, walked.words);
     if is_pass(outcome.answer) {
         cache_slots::fill(cache, at.slot, at.key, content_of(found));
     }

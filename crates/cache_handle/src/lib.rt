@@ -49,6 +49,7 @@ fn look(installed: u64, cache: &[u64], check: Check) -> Check
 }
 
 /// All checks, and the cache. No memory is lent: `memory` is its length, in words.
+// Kept: the length of the cache is asked here and in `fitted_pes`: here the other lengths are asked by `decide::check`, and would be asked twice.
 #[inline(always)]
 pub fn check(
     tables: &Tables<'_>,
@@ -82,6 +83,7 @@ fn walk(
 }
 
 /// A request of the bridge with a cache. Memory is not written.
+// Kept: apart from `handle::handle`, as said there.
 #[inline(always)]
 pub fn serve(
     tables: &Tables<'_>,

@@ -41,15 +41,15 @@ pub fn decode_operation(kind: u64, a: u64, b: u64, c: u64, d: u64, e: u64) -> Op
 {
     match kind {
         EDIT => Operation::Edit { word: a, value: b },
-        INVALIDATE => match scope(a, b, c) {
-            Some(scope) => Operation::Invalidate(scope),
-            None => Operation::Plain(Request::Unnamed),
-        },
+        INVALIDATE => {
+            scope(a, b, c).map_or(Operation::Plain(Request::Unnamed), Operation::Invalidate)
+        }
         _ => Operation::Plain(layout::decode(kind, a, b, c, d, e)),
     }
 }
 
 /// Operation `k` of a list of words; none where its words are not all there.
+// Kept: beside `request_at`; both share `words_at`, and differ in decoding and in what stands for no words.
 #[inline(always)]
 #[tactic(auto, unfolding(cache_words::specs::Operations::operation_in))]
 pub fn operation_at(requests: &[u64], k: usize) -> Operation

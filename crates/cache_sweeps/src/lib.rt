@@ -46,7 +46,7 @@ pub fn drop_page(entries: &[u64], cache: &mut [u64], pe: PeNumber, address: Byte
 }
 
 /// Each slot is emptied whose page is walked through a memory word; `pes` is N.
-// Kept: N, the lists and the word one by one, as the definition `through` takes them.
+// Kept: N, the lists and the word one by one, as the definitions `of_entries` and `through` take them; `through` below is handed them on.
 pub fn drop_through(pes: u16, entries: &[u64], memory: &[u64], cache: &mut [u64], word: u64)
     ensures { cache.new ≡ sweep (through (of_entries pes entries.now) memory.now word) cache.old }
 {

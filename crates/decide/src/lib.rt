@@ -38,6 +38,7 @@ fn requester_of(pes: u16, tables: &Tables<'_>, requester: u64) -> Result<PeNumbe
     owners::of_requester(pes, tables.sizes.requesters, tables.requesters, requester)
 }
 
+// Kept: N of 16 bits beside the tables whose N it is: `tables.sizes.pes` has 64 bits, and a type that says both would be made at the one call of `ask`.
 // A DMA, by its requester; `pes` is N.
 #[inline(always)]
 #[tactic(auto, unfolding(owners::specs::ByOwner::by_owner, crate::specs::ByRequester::dma_of))]
@@ -103,7 +104,7 @@ fn access(
 }
 
 // A request that is well formed; `pes` is N.
-// Kept, for speed: `fenced` is asked in the arms of the kinds that the fence stops. Asked before the `match`, it costs every request a second look for its kind.
+// Kept: for speed, `fenced` is asked in the arms of the kinds that the fence stops. Asked before the `match`, it costs every request a second look for its kind.
 #[inline(always)]
 fn ask(
     fenced: bool,

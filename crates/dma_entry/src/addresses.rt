@@ -49,6 +49,7 @@ pub fn offset_of(address: ByteAddress) -> ByteAddress
 }
 
 /// Bit 59 of an address: 0 picks the first record of a PE, 1 the second.
+// Kept: a number: it is a word of a slot of the cache, and places in a table are worked out from it.
 #[inline(always)]
 pub fn half_of(address: ByteAddress) -> u64
     ensures { result ≡ half address }

@@ -19,7 +19,8 @@ pub struct Walked {
 }
 
 // The number of the memory word that a page has in the table at `base`, with `below` levels below it.
-// Kept: `bits` and `base` are two numbers, their bounds in the contracts; a struct for `bits` alone is no plainer, and one for both would be built anew at each level.
+// Kept: `bits` and `base` are two numbers. A struct for `bits` would take one of two or three facts out of each contract, since `bits * below < 64` changes with each level; one for both would be
+// built anew at each level.
 #[inline(always)]
 #[tactic(auto, using(crate::proofs::StepLaws::placed))]
 pub(crate) fn place(below: u64, bits: u64, base: ByteAddress, page: PageNumber) -> usize

@@ -56,6 +56,7 @@ pub fn release(state: &mut [u64], pe: PeNumber, part: Part)
 const PEER_WORDS: usize = limits::PEER_WORDS as usize;
 
 /// The peer vector of a PE: bit k mod 64 of word k div 64 is that of PE k. A word that the table does not have is 0.
+// Kept: an array of four words by value: the project has the vector so, and the peers are read before the state is written.
 pub fn peer_vector(peers: &[u64], pe: PeNumber) -> [u64; 4]
     ensures { result ≡ vector_in peers.now pe }
 {

@@ -24,6 +24,7 @@ use msi::interrupts;
 use tables::lent::{Live, Tables};
 
 // The peers that a freeze takes with it: those of the PE, or none.
+// Kept: a flag, that of `Effect::Freeze`, as the definition `taken` has it.
 #[inline(always)]
 fn taken(peers: &[u64], pe: PeNumber, with_peers: bool) -> [u64; 4]
     ensures { result ≡ taken with_peers peers.now pe }
@@ -96,6 +97,7 @@ pub fn walk(
 }
 
 /// Any request on any tables.
+// Kept: this and `cache_handle::serve` apart: one function by a const parameter takes fewer instructions, and lends the bridge without a cache an empty one.
 #[inline(always)]
 pub fn handle(tables: &Tables<'_>, memory: &[u64], live: &mut Live<'_>, request: Request) -> Answer
     ensures handled { Handled tables.now memory.now (seen live.old) request result (seen live.new) }

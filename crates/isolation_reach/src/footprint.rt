@@ -58,7 +58,7 @@ fn mark_and_clear(room: &mut Room<'_>, pes: u16, group: &[u64], entries: &[u64])
 
 /// Marks the words that walks of members read, and no others. `tables` and `under` are room to work in and become 0; nothing is marked where they have not
 /// the length of memory.
-// Kept: the lists one by one, since `celltimber_covers` hands in those of C, of any lengths; `Room` begins where the lengths are tested.
+// Kept: the lists one by one: `MembersMarked`, the promise of this public function, is for lists of any lengths, and `Room` begins where they are tested.
 #[tactic(auto, unfolding(crate::specs::Footprint::members_marks, crate::specs::Footprint::room_after))]
 pub fn mark_members(
     pes: u16,

@@ -76,6 +76,7 @@ fn within(tables: &[u64], level: Level, count: u64, j: usize) -> bool
         || first == level.table && (index < level.index || count <= index - level.index)
 }
 
+// Kept: lists and not the room, as in `mark_upper`.
 fn mark_word(tables: &[u64], marks: &mut [u64], level: Level, count: u64, j: usize)
     ensures { marks.new ≡ mark_turn tables.now level.bits level.table level.index count marks.old j }
 {

@@ -1,6 +1,7 @@
 // Memory, the marks on its words, and room to work in.
 ghost use Rattle.std.specs.Prelude.{◌≡◌, length};
 
+// Kept: a word for a mark: the list is that of `celltimber_covers`, in C.
 // `tables` and `under` are the lists to work in; they have the length of memory.
 #[derive(Drop)]
 pub(crate) struct Room<'a> {

@@ -15,6 +15,7 @@ const INTERRUPTS: u64 = 4;
 
 const STATE: u64 = 7;
 
+// Kept: as in `msi`, which this crate does not use; one cast.
 const INTERRUPT_WORDS: usize = limits::INTERRUPT_WORDS as usize;
 
 // The PE word of an interrupt is public, the other words are its PE's.

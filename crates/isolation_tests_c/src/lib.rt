@@ -1,5 +1,6 @@
 // The tests of the isolation theorem's premises that Rust and C call, as a static library: numbers and slices only. A slice passes as its first element's
 // address and its length. What each promises is what the function of `isolation_tests` under it promises.
+// Kept: numbers and lists one by one: the C interface.
 #![tactic(auto)]
 
 ghost use Rattle.std.specs.Prelude.{◌≡◌};

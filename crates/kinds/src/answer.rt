@@ -58,6 +58,7 @@ pub enum Answer {
 }
 
 /// An answer as numbers. `name` is 0 pass, 1 msi, 2 held, 3 ones, 4 drop, 5 refuse, 6 done.
+// Kept: numbers, the words of an answer to C.
 #[derive(Clone, Copy, Debug, PartialEq, Eq)]
 pub struct Numbers {
     pub name: u64,
@@ -92,28 +93,19 @@ impl From<Answer> for Numbers {
     fn from(answer: Answer) -> Numbers {
         match answer {
             Answer::Pass { address, pe, words } => Numbers {
-                name: 0,
-                reason: 0,
                 value: address.0,
                 words,
-                pe: pe.0 as u64,
-                server: 0,
-                priority: 0,
-                word: 0,
+                pe: u64::from(pe.0),
+                ..plain(0, 0, 0, 0)
             },
             Answer::Msi {
                 number,
                 server,
                 priority,
             } => Numbers {
-                name: 1,
-                reason: 0,
-                value: number,
-                words: 0,
-                pe: 0,
                 server,
                 priority,
-                word: 0,
+                ..plain(1, 0, number, 0)
             },
             Answer::Held { number } => plain(2, 0, number, 0),
             Answer::Ones { reason, value } => plain(3, u64::from(reason), value, 0),
@@ -123,14 +115,8 @@ impl From<Answer> for Numbers {
                 words,
                 word,
             } => Numbers {
-                name: 5,
-                reason: u64::from(reason),
-                value: 0,
-                words,
-                pe: 0,
-                server: 0,
-                priority: 0,
                 word: word.0,
+                ..plain(5, u64::from(reason), 0, words)
             },
             Answer::Done => plain(6, 0, 0, 0),
         }

@@ -5,6 +5,7 @@
 pub struct ByteAddress(pub u64);
 
 /// The address that stands where no word of memory is named.
+// Kept: 0 and not an Option, as the definition `fault` and the words of an answer have it.
 pub const NO_WORD: ByteAddress = ByteAddress(0);
 
 /// An address that counts pages of one size.
@@ -16,6 +17,7 @@ pub struct PageNumber(pub u64);
 pub struct PeNumber(pub u16);
 
 /// No PE has this number.
+// Kept: a number and not an Option, as the definition `pe_at` and the words of the tables have it.
 pub const NO_PE: u64 = 0x1_0000;
 
 /// The four page sizes: 4 KiB, 64 KiB, 16 MiB and 256 MiB.

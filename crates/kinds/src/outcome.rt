@@ -49,6 +49,7 @@ pub enum Check {
     // Its outcome, whose effect is done at this PE.
     Ready(PeNumber, Outcome),
     // The page table of this entry of the PE is walked for the DMA.
+    // Kept: three values, as the definitions `by_entry` and `finish` take and give them; functions that take its parts take them one by one.
     Walk(PeNumber, TranslationEntry, DmaRequest),
     // It is done, and the fence bit becomes this.
     Fences(bool),

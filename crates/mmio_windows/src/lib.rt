@@ -41,6 +41,7 @@ fn segment(base: u64, size: u64, address: ByteAddress) -> u64
 }
 
 // The PE of the segment, and the offset moved to the PCI base.
+// Kept: numbers and not a struct, here and in open_windows: the definitions `placed` and `m32_takes` take them so, and the words of M64 are read one after another, the mode first.
 #[tactic(auto, using(crate::proofs::RouteLaws::m32_from, crate::proofs::RouteLaws::m32_sized, crate::proofs::RouteLaws::m32_moved))]
 fn m32_hit(segments: &[u16], base: u64, size: u64, pci: u64, address: ByteAddress) -> Hit
     requires { m32_takes base size pci address ≡ true }

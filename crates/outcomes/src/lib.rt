@@ -84,8 +84,5 @@ pub fn refuse(reason: Reason) -> Check
 pub fn settled(found: Result<Check, Reason>) -> Check
     ensures { result ≡ spec.settled found }
 {
-    match found {
-        Ok(check) => check,
-        Err(reason) => refuse(reason),
-    }
+    found.unwrap_or_else(refuse)
 }

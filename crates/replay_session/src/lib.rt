@@ -19,7 +19,8 @@ use text_lines;
 use text_report;
 
 /// Where a replay stands between two pieces: the extent of the tables, the bytes kept of the line that has not ended, and the count of output lines.
-// Kept: values that are copied from piece to piece; what a piece is lent (tables, line, output) stands beside them in `end_line`, `replay_feed::feed` and `replay_feed::finish`, which may not change.
+// Kept: values that are copied from piece to piece; what a piece is lent (tables, line, output) stands beside them in `end_line`, `replay_feed::feed` and `replay_feed::finish`, which may not change, and in what hands them on.
+// `pending` counts bytes of the line, which is lent anew with each piece.
 #[derive(Clone, Copy, Debug, PartialEq, Eq)]
 pub struct Progress {
     pub extent: Extent,

@@ -21,6 +21,7 @@ use table_lists::{once, used};
 use tables::lent::{Live, Tables};
 
 // The part of a table that is in use: its first `count` times `each` words, or all where it has no more.
+// Kept: `count` and `each` beside the table, since it is lent longer than its words in use.
 fn part<T: Copy>(table: &[T], count: u64, each: u64) -> &[T]
     ensures { result.now ≡ take (count * each) table.now }
 {
@@ -29,6 +30,7 @@ fn part<T: Copy>(table: &[T], count: u64, each: u64) -> &[T]
 }
 
 // A request, on tables of which only the parts in use are lent.
+// Kept: state and interrupts and not a `Live`: one of parts of slices, made where they are cut, gets no proof.
 fn serve_on(
     tables: &Tables<'_>,
     memory: &[u64],
@@ -66,7 +68,7 @@ fn serve_parts(
 }
 
 // A request, on the parts of the lists that are in use.
-// Kept: lists and not a `Lent`: while one of its fields is lent, a read of another gets no proof.
+// Kept: lists and not a `Lent`: a `Tables` made of parts of its fields got no proof, since a part stays lent while the next field is read behind the same reference.
 fn serve_lists(
     extent: Extent,
     requesters: &mut [u16],
@@ -116,6 +118,7 @@ fn serve_in(extent: Extent, lent: &mut Lent<'_>, request: Request) -> Numbers
 }
 
 // What a set line writes: nothing, or the answer to a bad line.
+// Kept: a match, which names both ends; `err` and `map` in its place are no plainer.
 fn set_reply(ended: Result<(), BadLine>) -> Reply
     ensures { result ≡ set_reply ended }
 {

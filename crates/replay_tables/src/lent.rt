@@ -19,6 +19,7 @@ pub struct Lent<'a> {
 
 impl<'a> Lent<'a> {
     /// The length of each list in words, past those in use too.
+    // Kept: as in `tables`: the lists are those of two types, and one function of eight lengths would be handed eight.
     pub fn lengths(&self) -> Lengths
         ensures { result ≡ lengths_of self.now.requesters.now self.now.entries.now self.now.memory.now self.now.peers.now self.now.interrupts.now self.now.windows.now self.now.segments.now self.now.state.now }
     {

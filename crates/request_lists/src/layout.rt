@@ -56,6 +56,7 @@ fn clear(pe: u64, part: u64) -> Option<Request>
 }
 
 /// The request that six words name: its kind, and then its numbers.
+// Kept: six words one by one, as the C interface has them (`celltimber_owner`).
 #[inline(always)]
 #[tactic(auto, unfolding(request_words::specs::Layout::decoded))]
 pub fn decode(kind: u64, a: u64, b: u64, c: u64, d: u64, e: u64) -> Request

@@ -40,7 +40,7 @@ pub fn write_answer(answers: &mut [u64], k: usize, answer: Answer)
     if k < answers.len() / layout::ANSWER_WORDS {
         let numbers = Numbers::from(answer);
         let at = k * layout::ANSWER_WORDS;
-        // Kept: by index, since `copy_from_slice` of the eight words takes 30 instructions more.
+        // Kept: by index, since `copy_from_slice` of the eight words takes some 30 instructions more to an answer, so that every work of bench/run gets slower.
         answers[at] = numbers.name;
         answers[at + 1] = numbers.reason;
         answers[at + 2] = numbers.value;

@@ -19,6 +19,7 @@ pub fn used(count: u64, each: u64, length: usize) -> usize
 }
 
 /// Every word of the list becomes 0.
+// Kept: a function, since with `fill` in place of it the proof of `mark_members` does not close.
 pub fn clear(list: &mut [u64])
     ensures { list.new ≡ replicate (length list.old) 0 }
 {

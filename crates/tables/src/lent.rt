@@ -30,7 +30,8 @@ impl<'a> Model for Tables<'a> {
 }
 
 /// The tables that requests write.
-/// No Model: one over `&mut` loses what its maker wrote. `seen` gives its value in clauses.
+// Kept: no Model, since one over `&mut` loses what its maker wrote; `seen` gives its value in clauses, with `Same` beside it.
+// Kept: tables, memory, live tables and cache beside each other in what takes them: a check is lent no memory, a request reads it, and an edit alone may write it.
 #[derive(Drop)]
 pub struct Live<'a> {
     pub state: &'a mut [u64],

@@ -21,7 +21,7 @@ pub fn pe_word(table: &[u64], index: usize) -> u64
 }
 
 /// The number of a PE at `index` of a table of 16-bit words, or `NO_PE` where the table has none.
-// Kept: two functions, each of one line; one over both widths needs a trait whose two bodies are these lines.
+// Kept: three functions, each of one line, that differ in a constant or a width. `pe_at` in the contract is over numbers, which a list of any `T` has by a trait of its own alone.
 #[inline(always)]
 pub fn short_pe_word(table: &[u16], index: usize) -> u64
     ensures { result ≡ pe_at table.now index }

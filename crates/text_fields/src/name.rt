@@ -1,5 +1,5 @@
 // The names that a field can hold.
-// Kept: a chain of `same`: the default arm of a `match` on byte strings leaves a goal for each length and byte, and a list of pairs with `find` is no plainer.
+// Kept: a chain of `same`: the default arm of a `match` on byte strings leaves a goal for each length and byte, and a list of pairs with `find` needs each name cut to a slice, and a closure for its proof.
 use crate::{FieldValue, same};
 use kinds::request::{Direction, Part};
 use replay_text::Table;

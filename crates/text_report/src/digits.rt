@@ -1,5 +1,5 @@
 // Numbers as text: the digits of a number and the byte that ends them, written into a lent slice.
-// Kept: not `write!`: the definition gives the digits one by one, and a turn here writes one of them.
+// Kept: not `write!`, which has a contract for a String alone, and that is heap.
 ghost use Rattle.std.specs.Prelude.{◌≡◌, ◌+◌, ◌≤◌, ◌<◌, length};
 ghost use Rattle.replay_text.specs.Digits as spec;
 ghost use Rattle.text_report.specs.Placed.{Wrote};
@@ -42,6 +42,7 @@ fn glyph(d: u64) -> u8
 }
 
 // How many decimal digits n has.
+// Kept: a division to a digit, as the definition `places` counts them.
 pub(crate) fn places(n: u64) -> usize
     ensures { (result ≡ spec.places n) × (result ≤ spec.decimal_digits) }
 {

@@ -20,6 +20,7 @@ pub const LINE_MOST: usize = 87;
 const HEADER_LENGTH: usize = 28;
 
 /// Output line n, after the header: the answer in numbers, or `bad`. The place after it; where too few bytes are free, none is written.
+// Kept: this and `write_header` apart: each is one test of room around its own call; a closure for that call is no plainer.
 pub fn write_line(out: &mut [u8], at: usize, n: u64, numbers: Numbers) -> Result<usize, NoRoom>
     ensures { (result ≡ placed spec.line_most out.old at (spec.answer_line n numbers)) × (out.new ≡ written spec.line_most out.old at (spec.answer_line n numbers)) }
 {
