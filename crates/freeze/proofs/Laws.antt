@@ -3,14 +3,13 @@
 --     froze_both, froze_alone     the failing PE is stopped, and then its peers, if it lists any
 --     turn_first ..       the peers are stopped, a PE to a turn
 -- Assumes nothing.
-use mathlib.Core.Path.{◌≡◌, refl, sym, ◌∙◌}
+use mathlib.Core.Path.{◌≡◌, refl, sym, ap, ◌∙◌}
 use mathlib.Core.Bool.{Bool, true}
 use mathlib.Core.List.{List, ◌++◌}
-use Prim.Native.Nat.{ℕ, ◌+◌, ◌≤◌}
+use Prim.Native.Nat.{ℕ, ◌+◌, ◌*◌, ◌≤◌}
 use native.Mathlib.Omega.{arith}
 use lib.ListN.{length, take, drop}
 use lib.Seq.{length-take-le}
-use Rattle.std.specs.Int.{div_ceil}
 use Rattle.kinds.specs.Answer.{reason_number}
 use Rattle.kinds.specs.Turns.{turns}
 use Rattle.kinds.proofs.TurnsLaws.{turns_next}
@@ -20,7 +19,7 @@ use Rattle.kinds.specs.declared.outcome.ErrorRecord.{ErrorRecord}
 use Rattle.profile.specs.Freeze.{froze}
 use Rattle.profile.specs.Tables.{state_words}
 use Rattle.freeze.specs.Turn.{stopped, peers_stopped, lists_nobody, turned, peer_turn, end_of, froze_all}
-use Rattle.freeze.proofs.TurnLaws.{turns-is, nobody-stopped, both_is, end-within, part-is}
+use Rattle.freeze.proofs.TurnLaws.{turns-is, length_turned, nobody-stopped, both_is, end-within, part-is}
 
 -- `freeze`
 module _ (l : List ℕ) (b : ℕ) {n : ℕ} (end : n ≡ end_of (length l) b) where
@@ -51,5 +50,9 @@ module _ (v : List ℕ) (p : PeNumber) (l : List ℕ) where
     pub turn_next : {b : Bool} {x : List ℕ} → b ≡ bit_of v k → x ≡ turned b p m k → x ≡ turns (peer_turn v p) l (k + 1)
     turn_next asked h = turns_next (peer_turn v p) l k same (rw (← asked) h)
 
-    pub turn_last : {n : ℕ} → n ≡ div_ceil (length l) state_words → n ≤ k → m ≡ peers_stopped v p l
-    turn_last h g = same ∙ turns-is v p l k (omega (arith, h, g))
+    module _ {b : Bool} {x : List ℕ} (asked : b ≡ bit_of v k) (h : x ≡ turned b p m k) where
+      pub turn_length : length m ≡ length l → length x ≡ length l
+      turn_length g = ap length (rw asked at h) ∙ length_turned v p m k ∙ g
+
+      pub turn_last : length m ≡ length l → length m ≤ k * state_words + 3 → x ≡ peers_stopped v p l
+      turn_last g f = turn_next asked h ∙ turns-is v p l (k + 1) (omega (arith, g, f))
