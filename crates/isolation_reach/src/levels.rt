@@ -113,6 +113,18 @@ fn mark_tables(memory: &[u64], tables: &[u64], under: &mut [u64], level: Level)
     }
 }
 
+// Kept: a loop that counts by hand: `copy_from_slice` calls memmove, and the archive calls nothing but memset (tests/host.test, docs/HOST.md).
+fn copy(to: &mut [u64], from: &[u64])
+    requires { length to.old ≡ length from.now }
+    ensures { to.new ≡ from.now }
+{
+    let mut i = 0;
+    while i < to.len() {
+        to[i] = from[i];
+        i += 1;
+    }
+}
+
 // A level that has levels below it: marks its words, and `tables` becomes the tables below. The result is the table that the word of the level leads to.
 // Kept: the four lists and not the room: through the room the proof of what `tables` becomes did not close.
 fn mark_upper(
@@ -130,7 +142,7 @@ fn mark_upper(
     mark_words(tables, marks, memory.len(), level, 0);
     table_lists::clear(under);
     mark_tables(memory, tables, under, level);
-    tables.copy_from_slice(under);
+    copy(tables, under);
     leads_to(memory, level.bits, level.table, level.index)
 }
 
