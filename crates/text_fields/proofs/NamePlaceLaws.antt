@@ -1,8 +1,9 @@
 -- What a field holds, by the place of its name in the list of names.
 --     found               the name at a place is what the text is read as
 --     number_reads, table-reads, direction-reads, part-reads    a number, and a name of each list
+--     tables-last, directions-last, parts_last    a place that is none of the first ones
 -- Assumes nothing.
-use Rattle.std.specs.Prelude.{◌≡◌, List, [], ◌∷◌, ℕ, suc, Option, None, Some, refl}
+use Rattle.std.specs.Prelude.{◌≡◌, List, [], ◌∷◌, ℕ, zero, suc, Option, None, Some, refl}
 use Rattle.std.proofs.Common.{sym, ap}
 use Prim.Native.String.{String}
 use Rattle.kinds.proofs.Tests.{by_cases}
@@ -44,3 +45,26 @@ direction-reads = record { empty = refl; takes = λ t. found (name_at directions
 pub part-reads : NumberReads (place_from 0 parts) (find parts) (name_at parts Record)
 unfolding find is
 part-reads = record { empty = refl; takes = λ t. found (name_at parts Record) 0 parts t (refl, (refl, (refl, tt))) }
+
+-- the last name stands at every later place
+pub tables-last : (n : ℕ) → (n ≡ 0 → ⊥) → (n ≡ 1 → ⊥) → (n ≡ 2 → ⊥) → (n ≡ 3 → ⊥) → (n ≡ 4 → ⊥) → (n ≡ 5 → ⊥) → (n ≡ 6 → ⊥) → State ≡ name_at tables State n
+tables-last zero a b c d e f g = absurd (a refl)
+tables-last (suc zero) a b c d e f g = absurd (b refl)
+tables-last (suc (suc zero)) a b c d e f g = absurd (c refl)
+tables-last (suc (suc (suc zero))) a b c d e f g = absurd (d refl)
+tables-last (suc (suc (suc (suc zero)))) a b c d e f g = absurd (e refl)
+tables-last (suc (suc (suc (suc (suc zero))))) a b c d e f g = absurd (f refl)
+tables-last (suc (suc (suc (suc (suc (suc zero)))))) a b c d e f g = absurd (g refl)
+tables-last (suc (suc (suc (suc (suc (suc (suc zero))))))) a b c d e f g = refl
+tables-last (suc (suc (suc (suc (suc (suc (suc (suc n)))))))) a b c d e f g = refl
+
+pub directions-last : (n : ℕ) → (n ≡ 0 → ⊥) → Write ≡ name_at directions Write n
+directions-last zero a = absurd (a refl)
+directions-last (suc zero) a = refl
+directions-last (suc (suc n)) a = refl
+
+pub parts_last : (n : ℕ) → (n ≡ 0 → ⊥) → (n ≡ 1 → ⊥) → Record ≡ name_at parts Record n
+parts_last zero a b = absurd (a refl)
+parts_last (suc zero) a b = absurd (b refl)
+parts_last (suc (suc zero)) a b = refl
+parts_last (suc (suc (suc n))) a b = refl

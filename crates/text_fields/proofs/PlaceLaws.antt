@@ -1,11 +1,14 @@
 -- The fields of a line are the parts of its bytes between its tabs.
+--     first_is            the first field is what stands before the first tab, or the line where there is none
 --     fields_first        the fields of a line: the first, and those after it
 --     fields_after_lem    the fields after a place: the next, and those after it; fields_end: none from the end of the line on
 --     after-end           the field after the end of the line is empty
 --     after-most          a field that begins in the line ends in it
 --     only-bad, only-more, only-last    what the one field after a place holds: a field that is not read, more than one field, the last field
 -- Assumes nothing.
-use Rattle.std.specs.Prelude.{◌≡◌, ℕ, ◌+◌, ◌≤◌, ◌<◌, ltb, eqb, length, take, drop, Option, None}
+use Rattle.std.specs.Prelude.{◌≡◌, ℕ, ◌+◌, ◌≤◌, ◌<◌, ltb, eqb, length, take, drop, Option, None, ◌==◌}
+use Rattle.std.specs.List.{position, position_or_len}
+use Rattle.std.specs.Option.{unwrap_or}
 use Rattle.std.proofs.Math.Path.{refl}
 use Rattle.std.proofs.Common.{ap, add-one, arith, drop_of_length-le, length-drop, drop-cons, drop-drop, length-take-le, ltb-true, ltb-false}
 use mathlib.Core.List.{List, [], ◌∷◌}
@@ -18,6 +21,23 @@ cut_most : (l : List ℕ) → cut_of l ≤ length l
 unfolding cut_of
 cut_most [] = omega arith
 cut_most (b ∷ l) = by_cases (eqb b tab) (λ o. rw o (omega arith)) (λ o. rw o (omega (arith, cut_most l)))
+
+-- the place of the first tab, and the length where there is none
+cut_is : (l : List ℕ) → position_or_len (λ b. b == tab) l ≡ cut_of l
+unfolding cut_of
+cut_is [] = refl
+cut_is (b ∷ l) = by_cases (eqb b tab) (λ o. rw o refl) (λ o. rw (o, cut_is l) (omega arith))
+
+cut_first : (l : List ℕ) → unwrap_or (position (λ b. b == tab) l) (length l) ≡ cut_of l
+cut_first l =
+    by_cases (ltb (position_or_len (λ b. b == tab) l) (length l))
+    (λ o. rw o (cut_is l))
+    (λ o. let h = ltb-false (position_or_len (λ b. b == tab) l) (length l) o in rw o (omega (arith, h, cut_is l, cut_most l)))
+
+module _ (l : List ℕ) {r : Option ℕ} {n : ℕ} (p : r ≡ position (λ b. b == tab) l) (e : n ≡ unwrap_or r (length l)) where
+  pub first_is : take n l ≡ first_of l
+  unfolding first_of
+  first_is = let h : n ≡ cut_of l = rw (e, p) (cut_first l) in rw h refl
 
 first_length : (l : List ℕ) → length (first_of l) ≡ cut_of l
 unfolding first_of

@@ -2,10 +2,11 @@
 --     line-is             what a line says is what its first field and the fields after it say by the list of all forms
 --     field-some, field-none    a form that begins with a field, which is read or not; ends_in: a field that is read ends in the line
 --     by_value            the next value, and the fields after it, by what the field after a place holds; by_read: by the number that stands for it
+--     read_after          the next value, where the field ends, and the fields after it, by the number that stands for the field after a place
 --     inside              a field that is read begins in the line; at-end: a field that ends with the line does not end past it
 --     numbers_then, numbers_else    a form of two numbers, which are read or not
 -- Assumes nothing.
-use Rattle.std.specs.Prelude.{◌≡◌, List, [], ℕ, ◌≤◌, ltb, length, Option, None, Some, Result, Ok, Err, ok_or, refl}
+use Rattle.std.specs.Prelude.{◌≡◌, List, [], ℕ, ◌≤◌, ltb, length, Option, None, Some, MatchOption, Result, Ok, Err, ok_or, refl}
 use Rattle.std.proofs.Common.{sym, ap, ◌∙◌, arith, ltb-true, ltb-false}
 use Rattle.kinds.proofs.Tests.{by_cases}
 use Rattle.replay_text.specs.declared.BadLine.{BadLine}
@@ -16,7 +17,7 @@ use Rattle.text_fields.specs.Fields.{next_value, last_value, after_next}
 use Rattle.text_fields.specs.NamePlace.{fetch, NumberReads}
 use Rattle.text_fields.specs.Place.{first_of, field_after, end_after, fields_after}
 use Rattle.text_fields.proofs.PlaceLaws.{fields_first, fields_after_lem, fields_end, after-end, after-most}
-use Rattle.text_fields.proofs.ReadLaws.{field_then, field_else, final_then, final_else, numbers_are}
+use Rattle.text_fields.proofs.ReadLaws.{field_then, field_bad, final_then, final_else, numbers_are}
 
 pub line-is : (l : List ℕ) {w : List ℕ} {y : Parsed} → w ≡ first_of l → y ≡ formed forms w (fields_after l (length w)) → y ≡ line_of l
 unfolding line_of field formed
@@ -90,6 +91,15 @@ module _ {A : Type 0} {value : List ℕ → Option ℕ} {read : List ℕ → Opt
           let t = s.takes (field_after l p) ∙ ap (fetch take) e in
           g k e t (value_is read s.empty l p v m ∙ rw t refl) (left_is read s.empty l p v m)
 
+  pub read_after : MatchOption (value (field_after l p)) (r ≡ Err (record {})) (λ k. (r ≡ Ok (take k)) × (end_after l p ≤ length l) × (n ≡ fields_after l (end_after l p)))
+  read_after = held (value (field_after l p)) refl
+    where
+      held : (o : Option ℕ) → value (field_after l p) ≡ o → MatchOption o (r ≡ Err (record {})) (λ k. (r ≡ Ok (take k)) × (end_after l p ≤ length l) × (n ≡ fields_after l (end_after l p)))
+      held None e = value_is read s.empty l p v m ∙ rw (s.takes (field_after l p) ∙ ap (fetch take) e) refl
+      held (Some k) e =
+          let t = s.takes (field_after l p) ∙ ap (fetch take) e in
+          (value_is read s.empty l p v m ∙ rw t refl, ends_in read s.empty l p (take k) t, left_is read s.empty l p v m)
+
 -- two numbers
 module _ (go : ℕ → ℕ → Parsed) (fs : List (List ℕ)) {r q : Result ℕ BadLine} {n : List (List ℕ)} (v : r ≡ next_value number_of fs) (m : n ≡ after_next fs) (w : q ≡ last_value number_of n) where
   pub numbers_then : {a b : ℕ} {y : Parsed} → r ≡ Ok a → q ≡ Ok b → y ≡ go a b → y ≡ numbers go fs
@@ -104,4 +114,4 @@ module _ (go : ℕ → ℕ → Parsed) (fs : List (List ℕ)) {r q : Result ℕ 
 
       first : (x : Result ℕ BadLine) → r ≡ x → bad ≡ numbers go fs
       first (Ok a) i = second a i q refl
-      first (Err b) i = numbers_are go fs (field_else number_of _ fs v i refl)
+      first (Err b) i = numbers_are go fs (field_bad number_of _ fs v i refl)

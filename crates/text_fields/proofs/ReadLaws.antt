@@ -1,6 +1,7 @@
 -- What the fields that were read tell of a line.
 --     line_then, line_none    a line by its first field, and a line of none
---     field_then, field_else    a form that begins with a field, which was read or refused; final_then, final_else: a form of one field
+--     field_then, field_bad    a form that begins with a field, which was read or refused; final_then, final_else: a form of one field
+--     field_else          such a form, whatever the field holds: the line is bad where what follows of it is
 --     numbers_are         a form of two numbers is one of a number, and one of the last number
 --     reads               these laws for a form
 -- Assumes nothing.
@@ -36,11 +37,19 @@ unfolding field next_value
 field_then read go [] v e h g = let z = sym h ∙ v in cc
 field_then read go (f ∷ fs) v e h g = let z = sym h ∙ v in rw (given_ok (read f) (λ b. go b fs) z, ← e) g
 
-pub field_else : {A : Type 0} (read : List ℕ → Option A) (go : A → Form) (fs : List (List ℕ)) {r : Result A BadLine} {b : BadLine} {x : Parsed}
+pub field_bad : {A : Type 0} (read : List ℕ → Option A) (go : A → Form) (fs : List (List ℕ)) {r : Result A BadLine} {b : BadLine} {x : Parsed}
     → r ≡ next_value read fs → r ≡ Err b → IsErr x → x ≡ field read go fs
 unfolding field next_value
-field_else read go [] {x = x} v h i = err_is x i
-field_else read go (f ∷ fs) {x = x} v h i = let z = sym h ∙ v in err_is x i ∙ sym (given_err (read f) (λ b. go b fs) z)
+field_bad read go [] {x = x} v h i = err_is x i
+field_bad read go (f ∷ fs) {x = x} v h i = let z = sym h ∙ v in err_is x i ∙ sym (given_err (read f) (λ b. go b fs) z)
+
+pub field_else : {A : Type 0} (read : List ℕ → Option A) (go : A → Form) (fs : List (List ℕ)) {r : Result A BadLine} {n : List (List ℕ)}
+    → r ≡ next_value read fs → n ≡ after_next fs → ((a : A) → r ≡ Ok a → bad ≡ go a n) → bad ≡ field read go fs
+field_else {A = A} read go fs {r = r} v e f = held r refl
+  where
+    held : (x : Result A BadLine) → r ≡ x → bad ≡ field read go fs
+    held (Ok a) h = field_then read go fs v e h (f a h)
+    held (Err b) h = field_bad read go fs v h refl
 
 module _ {A : Type 0} (read : List ℕ → Option A) (k : A → Parsed) (fs : List (List ℕ)) {r : Result A BadLine} (v : r ≡ last_value read fs) where
   pub final_then : {a : A} {y : Parsed} → r ≡ Ok a → y ≡ k a → y ≡ final read k fs
@@ -55,4 +64,4 @@ pub numbers_are : (k : ℕ → ℕ → Parsed) (fs : List (List ℕ)) {y : Parse
 unfolding numbers
 numbers_are k fs h = h
 
-pub ruleset reads = (field_then, field_else, final_then, final_else, numbers_are)
+pub ruleset reads = (field_then, field_bad, final_then, final_else, numbers_are)

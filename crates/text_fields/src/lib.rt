@@ -9,7 +9,9 @@ ghost use Rattle.std.specs.List.{position};
 ghost use Rattle.replay_text.specs.Bytes.{tab};
 ghost use Rattle.replay_text.specs.Field.{fields_of, is};
 ghost use Rattle.text_fields.specs.Fields.{fields_in, next_value, last_value, after_next};
+ghost use Rattle.text_fields.specs.Place.{first_of};
 
+pub use name::{direction_at, part_at, table_at};
 use replay_text::{BadLine, TAB};
 use std::marker::Model;
 
@@ -83,6 +85,15 @@ impl<'a> Fields<'a> {
             None => Ok(value),
         }
     }
+}
+
+/// The first field of a line, which has one at least: all of it where it has no tab.
+#[tactic(auto, using(crate::proofs::PlaceLaws::first_is))]
+pub fn first(line: &[u8]) -> &[u8]
+    ensures { result.now ≡ first_of line.now }
+{
+    let end = tab_in(line).unwrap_or(line.len());
+    &line[..end]
 }
 
 /// Whether a text is this word.

@@ -16,13 +16,13 @@ loop-byte-init c =
     record { begins = b; short = c.if-text-gt-MOST_DIGITS.false; below = omega arith; same = laws.number_start _ b c.if-text-gt-MOST_DIGITS.false }
 
 pub overflow_mul-value : goal.overflow_mul-value
-overflow_mul-value c = search laws.shifts
+overflow_mul-value c = record { fits = omega (arith, laws.shifts _ _ c.loop-byte.invariant.below c.args.text.now c.loop-byte-test.true c.loop-byte.invariant.short) }
 
 pub returns-in_err-value : goal.returns-in_err-value
 returns-in_err-value c = c.from_residual.ensures ∙ laws.number_bad _ _ _ c.loop-byte.invariant.same c.loop-byte-test.true c.digit.ensures c.in_err-value.was
 
 pub overflow_add-value : goal.overflow_add-value
-overflow_add-value c = record { fits = laws.fits _ _ c.loop-byte.invariant.below c.args.text.now c.loop-byte-test.true c.loop-byte.invariant.short c.digit.ensures c.in_ok-value.was }
+overflow_add-value c = record { fits = omega (arith, laws.fits _ _ c.loop-byte.invariant.below c.args.text.now c.loop-byte-test.true c.loop-byte.invariant.short c.digit.ensures c.in_ok-value.was) }
 
 pub loop-byte-preserved : goal.loop-byte-preserved
 loop-byte-preserved c = search (rules, laws.more, laws.number_next)
