@@ -5,7 +5,7 @@ ghost use Rattle.std.specs.Prelude.{◌≡◌, option_map};
 ghost use Rattle.std.specs.Option.{unwrap_or};
 ghost use Rattle.kinds.specs.declared.request.Operation.TheVariants.{Plain, Invalidate};
 ghost use Rattle.kinds.specs.declared.request.Request.TheVariants.{Unnamed};
-ghost use Rattle.cache_words.specs.Operations.{decoded_invalidate, decoded_operation, operation_in};
+ghost use Rattle.cache_words.specs.Operations.{decoded_invalidate, decoded_operation, operation_in, of_cache_in};
 
 use kinds::number::ByteAddress;
 use kinds::request::{Operation, Request, Scope};
@@ -59,4 +59,17 @@ pub fn operation_at(requests: &[u64], k: usize) -> Operation
         Some([kind, a, b, c, d, e, ..]) => decode_operation(*kind, *a, *b, *c, *d, *e),
         _ => Operation::Plain(Request::Unnamed),
     }
+}
+
+/// Whether operation `k` of a list of words is of a kind that the bridge with a cache alone has: 9, an edit, or 10, an invalidate, whatever its other words name; false
+/// where its words are not all there.
+#[inline(always)]
+#[tactic(auto, unfolding(cache_words::specs::Operations::of_cache_in, cache_words::specs::Operations::of_cache))]
+pub fn is_of_cache(requests: &[u64], k: usize) -> bool
+    ensures { result ≡ of_cache_in requests.now k }
+{
+    matches!(
+        word_lists::words_at(requests, k),
+        Some([EDIT | INVALIDATE, ..])
+    )
 }

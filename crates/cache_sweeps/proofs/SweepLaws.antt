@@ -1,6 +1,6 @@
 -- What the functions of a sweep are proved from. Assumes nothing.
 use mathlib.Core.Path.{◌≡◌, sym, ap, ◌∙◌}
-use mathlib.Core.Bool.{Bool, false, ◌&&◌}
+use mathlib.Core.Bool.{Bool, true, false, ◌&&◌}
 use mathlib.Core.List.{List}
 use Prim.Native.Nat.{ℕ, ◌+◌, ◌-◌, ◌*◌, ◌/◌, ◌%◌, ◌^◌, ◌≤◌, ◌<◌}
 use native.Mathlib.Omega.{arith}
@@ -8,15 +8,20 @@ use lib.Dec.{eqb, ltb}
 use lib.ListN.{length}
 use borrow.Author.Tests.{lt-ltb, le-ltb, eq-eqb, ne_eqb, eqb-true}
 use Rattle.kinds.specs.Has.{has}
-use Rattle.kinds.proofs.Tests.{by_cases, clash}
+use Rattle.std.proofs.Common.{ext_get_or}
+use Rattle.std.proofs.Math.Path.{fun_ext}
+use Rattle.kinds.proofs.Tests.{by_cases, clash, and_false}
 use Rattle.kinds.specs.Turns.{turns}
 use Rattle.kinds.proofs.TurnsLaws.{turns_next}
-use Rattle.profile.specs.Entry.{half, entry_in, paged}
+use Rattle.kinds.specs.declared.number.ByteAddress.{ByteAddress}
+use Rattle.kinds.specs.declared.number.PeNumber.{PeNumber}
+use Rattle.profile.specs.Entry.{half, offset, entry_in, page_of, paged}
 use Rattle.profile.specs.Walk.{walked_page}
 use Rattle.profile.proofs.WalkLaws.{paged-walkable}
 use Rattle.cache.specs.Cache.{tabled, through}
 use Rattle.cache.specs.Slots.{slot_words, Test, dropped, sweep}
-use Rattle.cache_sweeps.specs.Drops.{of_entries, of_pe}
+use Rattle.cache.proofs.SlotsLaws.{at-sweep, length_sweep}
+use Rattle.cache_sweeps.specs.Drops.{of_entries, of_pe, of_page, page_slot}
 use Rattle.cache_sweeps.specs.Turn.{cleared, turned}
 use Rattle.cache_sweeps.proofs.TurnLaws.{length_turned, turns-is}
 
@@ -70,3 +75,19 @@ module _ (d : Test) (c₀ : List ℕ) {c : List ℕ} (k : ℕ) (e : c ≡ turns 
 
   pub turn_last : length c ≡ length c₀ → length c ≤ k * slot_words → c ≡ sweep d c₀
   turn_last g h = e ∙ turns-is d c₀ k (rw (← g) h)
+
+-- `drop_page`: no slot is named
+unnamed : (d : Test) → ((t h q : ℕ) → d t h q ≡ false) → (l : List ℕ) (k : ℕ) → dropped d l k ≡ false
+unfolding dropped
+unnamed d n l k = rw n (and_false _)
+
+none_swept : (d : Test) → ((t h q : ℕ) → d t h q ≡ false) → (l : List ℕ) → sweep d l ≡ l
+none_swept d n l = ext_get_or 0 (sweep d l) l (length_sweep d l) (λ i h. rw (at-sweep d l i, unnamed d n l (i / slot_words)))
+
+module _ (e : List ℕ) (p : PeNumber) (a : ByteAddress) where
+  pub page_named : paged (entry_in e p (half a)) ≡ true → page_slot e p a ≡ of_page p.0 (half a) (page_of (entry_in e p (half a)) (offset a)).0
+  unfolding page_slot
+  page_named o = fun_ext (λ t. fun_ext (λ h. fun_ext (λ q. rw o)))
+
+  pub none_named : paged (entry_in e p (half a)) ≡ false → (l : List ℕ) → sweep (page_slot e p a) l ≡ l
+  none_named o l = none_swept (page_slot e p a) (λ t h q. unfold page_slot in rw o) l

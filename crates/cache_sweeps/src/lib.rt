@@ -8,7 +8,7 @@ ghost use Rattle.cache.specs.Slots.{slot_words, Test, dropped, sweep};
 ghost use Rattle.cache_sweeps.specs.Drops.{of_entries, of_pe, of_page, any_slot, its_slots, page_slot};
 ghost use Rattle.cache_sweeps.specs.Turn.{cleared};
 
-use cache_slots::{Key, SLOT_WORDS};
+use cache_slots::SLOT_WORDS;
 use dma_entry::addresses::{entry_of, half_of, offset_of};
 use dma_pages::page_tables::{is_paged, size_of};
 use dma_pages::pages::page_number;
@@ -31,17 +31,25 @@ pub fn drop_pe(cache: &mut [u64], pe: u64)
 }
 
 /// The page around an address is dropped, by the record that bit 59 picks, where that has pages. Its window is not asked for.
-#[tactic(auto, unfolding(crate::specs::Drops::page_slot, crate::specs::Drops::of_page))]
+#[tactic(auto, using(crate::proofs::SweepLaws::page_named, crate::proofs::SweepLaws::none_named))]
 pub fn drop_page(entries: &[u64], cache: &mut [u64], pe: PeNumber, address: ByteAddress)
     ensures { cache.new ≡ sweep (page_slot entries.now pe address) cache.old }
 {
     let entry = entry_of(entries, pe, address);
-    let is_paged = is_paged(entry);
-    let half = half_of(address);
-    let page = page_number(size_of(entry), offset_of(address));
-    let key = Key { pe, half, page };
-    sweep(cache, |tag, half, page| {
-        is_paged && of_page(key, tag, half, page)
+    if is_paged(entry) {
+        let half = half_of(address);
+        let page = page_number(size_of(entry), offset_of(address));
+        drop_key(cache, u64::from(pe.0), half, page.0);
+    }
+}
+
+/// Each slot of a page is emptied, by its key: the number of its PE, its half (0 or 1) and its page number. Any three numbers are taken; those of no page name none of
+/// the slots that the rule fills.
+pub fn drop_key(cache: &mut [u64], pe: u64, half: u64, page: u64)
+    ensures { cache.new ≡ sweep (of_page pe half page) cache.old }
+{
+    sweep(cache, |tag, second, third| {
+        of_page(pe, half, page, tag, second, third)
     });
 }
 
@@ -63,11 +71,12 @@ fn of_pe(pe: u64, tag: u64) -> bool
 }
 
 // The first three words of a slot are those of a page.
+// Kept: the numbers one by one, as the definition `of_page` takes them.
 #[tactic(auto, unfolding(crate::specs::Drops::of_page))]
-fn of_page(key: Key, tag: u64, half: u64, page: u64) -> bool
-    ensures { result ≡ of_page key.pe.0 key.half key.page.0 tag half page }
+fn of_page(pe: u64, half: u64, page: u64, tag: u64, second: u64, third: u64) -> bool
+    ensures { result ≡ of_page pe half page tag second third }
 {
-    of_pe(u64::from(key.pe.0), tag) && half == key.half && page == key.page.0
+    of_pe(pe, tag) && second == half && third == page
 }
 
 // The walk of the page that a full slot holds reads a memory word; `pes` is N.

@@ -1,4 +1,5 @@
--- Lists of operations on the bridge with a cache or without one: one loop serves both.
+-- Lists of operations on the bridge with a cache or without one, which `cached` says: definitions over both bridges, by which one statement speaks of both: `Served`
+-- of crates/cache_handle/specs/Promise.antt, and the laws of a span here and in proofs/.
 --     either_answer, either_after  what an operation is answered and leaves; to the bridge without a cache an edit and an invalidate are words of no request, and
 --                         the cache is not looked at
 --     span .. r k n       on any machine, n requests from request k on, served on r
