@@ -61,6 +61,16 @@ was_ok (Err x) y = cc
 pub sized-by : (e : TranslationEntry) {r : Result PageSize Unnamed} → r ≡ size_of e.page → {s : PageSize} → Some s ≡ result_ok r → Ok s ≡ size_of e.page
 sized-by e {r} asks is = was_ok r is ∙ asks
 
+was_err : (r : Result PageSize Unnamed) → None ≡ result_ok r → (x : Unnamed) × (Err x ≡ r)
+was_err (Ok x) y = cc
+was_err (Err x) y = (x, refl)
+
+pub known_size : (e : TranslationEntry) {s : PageSize} → Some s ≡ result_ok (size_of e.page) → (known e ≡ true) × (page_size e ≡ s)
+known_size e is = known_page e (sized-by e refl is)
+
+pub unknown_size : (e : TranslationEntry) → None ≡ result_ok (size_of e.page) → known e ≡ false
+unknown_size e is = let w = was_err (size_of e.page) is in unknown_page e w.1
+
 -- `shape_of`: the last tests
 module _ (e : TranslationEntry) (small : e.table ≤ most_table_code) (some : 1 ≤ e.levels) (few : e.levels ≤ most_levels)
     {s : PageSize} (z : Ok s ≡ size_of e.page) {b : ℕ} (bits : b ≡ page_bits s) where

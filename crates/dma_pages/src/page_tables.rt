@@ -1,5 +1,7 @@
 // The shape of a page table: its page size, and the sum of the bits of its pages and indexes.
 ghost use Rattle.std.specs.Prelude.{◌≡◌, ◌≤◌};
+ghost use Rattle.std.specs.Result.{result_ok};
+ghost use Rattle.kinds.specs.Codes.{size_of};
 ghost use Rattle.profile.specs.Entry.{aligned, page_size, index_bits, walkable, paged};
 ghost use Rattle.dma_pages.specs.Shape.{shape_of};
 
@@ -30,13 +32,21 @@ pub fn aligned(bits: u64, base: ByteAddress) -> bool
     }
 }
 
+// The page size of an entry whose page code is known.
+#[inline(always)]
+fn known_size(entry: TranslationEntry) -> Option<PageSize>
+    ensures { result ≡ result_ok (size_of entry.page) }
+{
+    PageSize::try_from(entry.page).ok()
+}
+
 /// The page size of an entry; of a page code that is not known it is 256 MiB.
 #[inline(always)]
 #[tactic(auto, unfolding(profile::specs::Entry::page_size))]
 pub fn size_of(entry: TranslationEntry) -> PageSize
     ensures { result ≡ page_size entry }
 {
-    PageSize::try_from(entry.page).unwrap_or(PageSize::M256)
+    known_size(entry).unwrap_or(PageSize::M256)
 }
 
 /// Whether the table of an entry can be walked at all.
@@ -53,11 +63,11 @@ pub fn is_walkable(entry: TranslationEntry) -> bool
 
 /// The shape that an entry gives its table; one that is bad, or whose table code is above the largest, gives none.
 #[inline(always)]
-#[tactic(auto, using(crate::proofs::ShapeLaws::known_page, crate::proofs::ShapeLaws::unknown_page), unfolding(profile::specs::Entry::pages_good))]
+#[tactic(auto, using(crate::proofs::ShapeLaws::known_size, crate::proofs::ShapeLaws::unknown_size), unfolding(profile::specs::Entry::pages_good))]
 pub fn shape_of(entry: TranslationEntry) -> Option<Shape>
     ensures { result ≡ shape_of entry }
 {
-    let size = PageSize::try_from(entry.page).ok()?;
+    let size = known_size(entry)?;
     // Kept: two comparisons, since the proof did not close with `contains` of a range.
     if entry.table > MOST_TABLE_CODE || entry.levels < 1 || entry.levels > MOST_LEVELS {
         return None;

@@ -13,7 +13,7 @@ use Rattle.kinds.specs.declared.record.TranslationEntry.{TranslationEntry}
 use Rattle.profile.specs.Entry.{index_bits, offset_bits, walkable_tests, walkable, most_table_code, most_levels}
 use Rattle.dma_walk.specs.Turn.{Shaped}
 
--- `land_in`: the address is not cut
+-- `land`: the address is not cut
 pub lands : (s : PageSize) (w : ℕ) (o : ByteAddress) → w < 2 ^ 64 → (byte_address s (page_number s (record { 0 = w })) o).0 % 2 ^ 64 ≡ (byte_address s (page_number s (record { 0 = w })) o).0
 lands s w o h = mod-eq_of_lt (byte_fits s w o h)
 

@@ -55,17 +55,21 @@ fn turn(below: u64, bits: u64, place: u64, content: u64) -> Result<ByteAddress, 
     requires { (bits ≤ most_table_code + code_bits) × (place * word_bytes < 2 ^ 64) }
     ensures { result ≡ next below bits place content }
 {
-    let word = word_address(place);
     if below == 0 {
         return Err(Walked {
-            found: Ok(Frame { word, content }),
+            found: Ok(Frame {
+                word: word_address(place),
+                content,
+            }),
             words: 1,
         });
     }
     let base = next_base(content);
     if content % 4 == 0 || !aligned(bits, base) {
         return Err(Walked {
-            found: Err(WalkError::Forbidden { word }),
+            found: Err(WalkError::Forbidden {
+                word: word_address(place),
+            }),
             words: 1,
         });
     }

@@ -15,10 +15,16 @@ fn member_listed(group: &[u64], vector: &[u64], k: u16) -> bool
 }
 
 // A member among the first `pes` PEs is in the vector.
+// Kept: loops, here and over the PEs outside, for speed: by `rev` and `any` a closed group took twice the time.
 fn lists_member(group: &[u64], vector: &[u64], pes: u16) -> bool
     ensures { result ≡ lists_member group.now vector.now pes }
 {
-    (0..pes).any(|k| member_listed(group, vector, k))
+    for k in (0..pes).rev() {
+        if member_listed(group, vector, k) {
+            return true;
+        }
+    }
+    false
 }
 
 // PE `pe` is no member and lists one.
@@ -34,5 +40,10 @@ fn outsider_lists(group: &[u64], peers: &[u64], pes: u16, pe: u16) -> bool
 pub(crate) fn any_outsider_lists(group: &[u64], peers: &[u64], pes: u16) -> bool
     ensures { result ≡ any_outsider_lists group.now peers.now pes }
 {
-    (0..pes).any(|pe| outsider_lists(group, peers, pes, pe))
+    for pe in (0..pes).rev() {
+        if outsider_lists(group, peers, pes, pe) {
+            return true;
+        }
+    }
+    false
 }

@@ -10,6 +10,7 @@ use kinds::record::Lengths;
 use profile::limits::{
     ENTRY_WORDS, FENCE_WORDS, INTERRUPT_WORDS, PEER_WORDS, SEGMENT_COUNT, STATE_WORDS, WINDOW_WORDS,
 };
+use table_lists::clear;
 
 // Whether the tables with words for each PE are long enough; the state has the fence word too.
 fn pe_room(pes: u64, lengths: Lengths) -> bool
@@ -49,11 +50,11 @@ pub(crate) fn clear_all(lent: &mut Lent<'_>)
     ensures same { Same lent.old lent.new }
 {
     lent.requesters.fill(0);
-    lent.entries.fill(0);
-    lent.memory.fill(0);
-    lent.peers.fill(0);
-    lent.interrupts.fill(0);
-    lent.windows.fill(0);
+    clear(lent.entries);
+    clear(lent.memory);
+    clear(lent.peers);
+    clear(lent.interrupts);
+    clear(lent.windows);
     lent.segments.fill(0);
-    lent.state.fill(0);
+    clear(lent.state);
 }
