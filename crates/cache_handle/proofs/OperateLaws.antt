@@ -28,7 +28,8 @@ use Rattle.kinds.specs.declared.request.Request.TheVariants.{Unnamed}
 use Rattle.kinds.specs.declared.request.Scope.{Scope}
 use Rattle.profile.specs.Owner.{owner}
 use Rattle.profile.proofs.RequestLaws.{checked-owner}
-use Rattle.profile.specs.Step.{formed, finish, whole, act, act_by, checked, checked_on}
+use Rattle.kinds.specs.declared.record.Lengths.{Lengths}
+use Rattle.profile.specs.Step.{formed, finish, whole, act, act_by, checked}
 use Rattle.profile.specs.Tables.{Tables, Live, lengths, sized}
 use Rattle.handle.proofs.PlacedLaws.{placed, still}
 use Rattle.edits.specs.Edits.{Bare, checked_by}
@@ -60,16 +61,16 @@ module _ (i : ℕ) (c : List ℕ) {x : Check} {p : PeNumber} {e : TranslationEnt
   pub a_miss : u ≡ None → x ≡ looked i c x
   a_miss z = walks ∙ ap (λ (v : Option Outcome). in_place v p (Walk p e q)) (sym z) ∙ looked_by
 
--- `check`
-module _ (f : Tables) (n : ℕ) (s : Live) (c : List ℕ) (q : Request) where
+-- `check_by_lengths`
+module _ (f : Tables) (l : Lengths) (s : Live) (c : List ℕ) (q : Request) where
   abbrev x : Check
-  x = checked_by (eqb (length c) cache_words && sized f.sizes (lengths f n s)) f s q
+  x = checked_by (eqb (length c) cache_words && sized f.sizes l) f s q
 
   pub too_short : (length c ≡ cache_words → ⊥) → {k : Check} → k ≡ Kept (refuse TableLength) → k ≡ looked f.installed c x
   unfolding checked looked
   too_short h e = e ∙ rw (ne_eqb (length c) cache_words h)
 
-  pub checks : length c ≡ cache_words → {k y : Check} → k ≡ checked_on f n s q → y ≡ looked f.installed c k → y ≡ looked f.installed c x
+  pub checks : length c ≡ cache_words → {k y : Check} → k ≡ checked_by (sized f.sizes l) f s q → y ≡ looked f.installed c k → y ≡ looked f.installed c x
   checks h e g = g ∙ rw (e, eq-eqb (length c) cache_words h)
 
 -- an operation, from its answer and what it leaves

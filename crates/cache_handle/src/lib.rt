@@ -25,10 +25,10 @@ use handle;
 use kinds::answer::{Answer, Reason};
 use kinds::number::PeNumber;
 use kinds::outcome::{Check, Outcome};
-use kinds::record::TranslationEntry;
+use kinds::record::{Lengths, TranslationEntry};
 use kinds::request::{DmaRequest, Operation, Request, Scope};
 use outcomes;
-use tables::lent::{Live, Tables};
+use tables::lent::{Live, LiveRef, Tables};
 
 // The words of the cache.
 const CACHE_WORDS: usize = limits::CACHE_WORDS as usize;
@@ -48,10 +48,43 @@ fn look(installed: u64, cache: &[u64], check: Check) -> Check
     }
 }
 
-/// All checks, and the cache. No memory is lent: `memory` is its length, in words.
-// Kept: the length of the cache is asked here and in `fitted_pes`: here the other lengths are asked by `decide::check`, and would be asked twice.
+/// All checks, of tables whose lengths are taken to be `lengths`, in their own words, and the cache, which is measured. No memory is lent.
+// Kept: the length of the cache is asked here and in `fitted_pes`: here the other lengths are asked by `decide`, and would be asked twice.
+#[inline(always)]
+#[tactic(auto, unfolding(profile::specs::Step::checked, cache::specs::Cache::looked))]
+pub fn check_by_lengths(
+    tables: &Tables<'_>,
+    lengths: Lengths,
+    live: &LiveRef<'_>,
+    cache: &[u64],
+    request: Request,
+) -> Check
+    ensures { result ≡ looked tables.now.installed cache.now (checked_by (eqb (length cache.now) cache_words && sized tables.now.sizes lengths) tables.now live.now request) }
+{
+    if cache.len() != CACHE_WORDS {
+        return outcomes::refuse(Reason::TableLength);
+    }
+    let check = decide::check_by_lengths(tables, lengths, live, request);
+    look(tables.installed, cache, check)
+}
+
+/// All checks, and the cache. No memory is lent: `memory` is its length, in words of 8 bytes.
 #[inline(always)]
 pub fn check(
+    tables: &Tables<'_>,
+    memory: usize,
+    live: &LiveRef<'_>,
+    cache: &[u64],
+    request: Request,
+) -> Check
+    ensures { result ≡ looked tables.now.installed cache.now (checked_by (eqb (length cache.now) cache_words && sized tables.now.sizes (lengths tables.now memory live.now)) tables.now live.now request) }
+{
+    check_by_lengths(tables, tables.lengths(memory, live), live, cache, request)
+}
+
+// The same on tables that are lent to be written.
+#[inline(always)]
+fn check_live(
     tables: &Tables<'_>,
     memory: usize,
     live: &Live<'_>,
@@ -60,11 +93,7 @@ pub fn check(
 ) -> Check
     ensures { result ≡ looked tables.now.installed cache.now (checked_by (eqb (length cache.now) cache_words && sized tables.now.sizes (lengths tables.now memory (seen live.now))) tables.now (seen live.now) request) }
 {
-    if cache.len() != CACHE_WORDS {
-        return outcomes::refuse(Reason::TableLength);
-    }
-    let check = decide::check(tables, memory, live, request);
-    look(tables.installed, cache, check)
+    check(tables, memory, &live.read(), cache, request)
 }
 
 // The walk, the only reader of memory; its slot is filled where the DMA passes.
@@ -95,7 +124,7 @@ pub fn serve(
     ensures served { Served true tables.now (held memory.now (seen live.old) cache.old) request result (held memory.now (seen live.new) cache.new) }
     ensures same { Same live.old live.new }
 {
-    match check(tables, memory.len(), live, cache, request) {
+    match check_live(tables, memory.len(), live, cache, request) {
         Check::Kept(answer) => answer,
         Check::Ready(pe, outcome) => handle::carry_out(tables, live, pe, outcome),
         Check::Walk(pe, entry, dma) => {
@@ -111,10 +140,10 @@ pub fn serve(
 fn fitted_pes(
     tables: &Tables<'_>,
     memory: usize,
-    live: &Live<'_>,
+    live: &LiveRef<'_>,
     cache: &[u64],
 ) -> Result<u16, Reason>
-    ensures { result ≡ cond (eqb (length cache.now) cache_words && sized tables.now.sizes (lengths tables.now memory (seen live.now))) (Ok tables.now.sizes.pes) (Err TableLength) }
+    ensures { result ≡ cond (eqb (length cache.now) cache_words && sized tables.now.sizes (lengths tables.now memory live.now)) (Ok tables.now.sizes.pes) (Err TableLength) }
 {
     match cache.len() {
         CACHE_WORDS => tables.sized_pes(memory, live),
@@ -145,17 +174,17 @@ fn invalidate(pes: u16, tables: &Tables<'_>, cache: &mut [u64], scope: Scope) ->
     cache_edits::invalidate(pes, tables.entries, cache, scope)
 }
 
-/// An operation of a kind that the bridge with a cache alone has: an edit, an invalidate, or words of these kinds that name nothing. State and interrupts are not
-/// written. A request is answered here as words that name nothing.
+/// An operation that the bridge with a cache alone has: an edit or an invalidate. State and interrupts are not written. A request is answered here as words that
+/// name nothing; `operate` serves it.
 #[inline(always)]
 pub fn maintain(
     tables: &Tables<'_>,
     memory: &mut [u64],
-    live: &Live<'_>,
+    live: &LiveRef<'_>,
     cache: &mut [u64],
     operation: Operation,
 ) -> Answer
-    ensures { Operated tables.now (held memory.old (seen live.now) cache.old) (maintained operation) result (held memory.new (seen live.now) cache.new) }
+    ensures { Operated tables.now (held memory.old live.now cache.old) (maintained operation) result (held memory.new live.now cache.new) }
 {
     match fitted_pes(tables, memory.len(), live, cache) {
         Err(reason) => outcomes::refusal(reason),
@@ -181,6 +210,6 @@ pub fn operate(
 {
     match operation {
         Operation::Plain(request) => serve(tables, memory, live, cache, request),
-        _ => maintain(tables, memory, live, cache, operation),
+        _ => maintain(tables, memory, &live.read(), cache, operation),
     }
 }

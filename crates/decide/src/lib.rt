@@ -1,19 +1,21 @@
 // A request on the bridge's tables: its answer and its effect. Nothing is written. Defined in crates/profile/specs/Step.antt.
 #![tactic(auto)]
 
-mod forms;
+pub mod forms;
 
 ghost use Rattle.std.specs.Prelude.{◌≡◌, true};
 ghost use Rattle.kinds.specs.Outcome.{settled};
 ghost use Rattle.kinds.specs.Words.{at};
-ghost use Rattle.kinds.specs.declared.outcome.Check.TheVariants.{Kept, Fences};
+ghost use Rattle.kinds.specs.declared.outcome.Check.TheVariants.{Kept, Ready, Fences};
 ghost use Rattle.profile.specs.Fence.{fence_word, fenced};
+ghost use Rattle.profile.specs.Firmware.{on_good, ends, prioritized};
 ghost use Rattle.profile.specs.Freeze.{stop_word};
-ghost use Rattle.profile.specs.Owner.{of_requester, of_hit, owner_in};
-ghost use Rattle.profile.specs.Step.{formed, accessed, asked, checked_on, decided, finish};
+ghost use Rattle.profile.specs.Msi.{interrupt_in};
+ghost use Rattle.profile.specs.Owner.{of_requester, of_interrupt, of_hit, owner_in};
+ghost use Rattle.profile.specs.Step.{formed, accessed, asked, checked, checked_on, decided, finish};
+ghost use Rattle.profile.specs.Tables.{sized};
 ghost use Rattle.profile.specs.Windows.{route};
 ghost use Rattle.owners.specs.ByOwner.{by_owner};
-ghost use Rattle.tables.specs.Lent.{seen};
 ghost use Rattle.decide.specs.ByRequester.{dma_of, message_of};
 ghost use Rattle.decide.specs.PastFence.{past_fence};
 
@@ -23,12 +25,13 @@ use firmware;
 use kinds::answer::{Answer, Reason};
 use kinds::number::{ByteAddress, NO_WORD, PeNumber};
 use kinds::outcome::{Check, Effect, ErrorRecord, Outcome};
+use kinds::record::Lengths;
 use kinds::request::{DmaRequest, Request};
 use mmio;
 use mmio_windows;
 use outcomes;
 use owners;
-use tables::lent::{Live, Tables};
+use tables::lent::{LiveRef, Tables};
 
 // The PE of a requester; `pes` is N.
 #[inline(always)]
@@ -45,13 +48,13 @@ fn requester_of(pes: u16, tables: &Tables<'_>, requester: u64) -> Result<PeNumbe
 fn by_requester(
     pes: u16,
     tables: &Tables<'_>,
-    live: &Live<'_>,
+    live: &LiveRef<'_>,
     dma: DmaRequest,
 ) -> Result<Check, Reason>
-    ensures { settled result ≡ by_owner (dma_of tables.now.sizes.interrupts tables.now.installed tables.now.entries (seen live.now).interrupts (seen live.now).state dma) (of_requester pes tables.now.sizes.requesters tables.now.requesters dma.requester) }
+    ensures { settled result ≡ by_owner (dma_of tables.now.sizes.interrupts tables.now.installed tables.now.entries live.now.interrupts live.now.state dma) (of_requester pes tables.now.sizes.requesters tables.now.requesters dma.requester) }
 {
     let pe = requester_of(pes, tables, dma.requester)?;
-    dma::check_dma(tables, live, pe, dma)
+    Ok(dma::check_dma(tables, live, pe, dma))
 }
 
 // An error message of a PE, with its requester.
@@ -93,14 +96,37 @@ fn fatal_message(pes: u16, tables: &Tables<'_>, requester: u64) -> Result<Check,
 fn access(
     pes: u16,
     tables: &Tables<'_>,
-    live: &Live<'_>,
+    live: &LiveRef<'_>,
     address: ByteAddress,
     stopped: Answer,
-) -> Result<Check, Reason>
-    ensures { settled result ≡ by_owner (λ p. Kept (accessed (route tables.now.windows tables.now.segments address) p (at (seen live.now).state (stop_word p)) stopped)) (of_hit pes (route tables.now.windows tables.now.segments address)) }
+) -> Check
+    ensures { result ≡ by_owner (λ p. Kept (accessed (route tables.now.windows tables.now.segments address) p (at live.now.state (stop_word p)) stopped)) (of_hit pes (route tables.now.windows tables.now.segments address)) }
 {
     let hit = mmio_windows::route(tables.windows, tables.segments, address);
     mmio::access_of(pes, live.state, hit, stopped)
+}
+
+// The end of an interrupt; `pes` is N.
+#[inline(always)]
+fn end(pes: u16, tables: &Tables<'_>, live: &LiveRef<'_>, number: u64) -> Check
+    ensures { result ≡ by_owner (λ p. Ready p (on_good (interrupt_in live.now.interrupts number) (ends number (interrupt_in live.now.interrupts number)))) (of_interrupt pes tables.now.sizes.interrupts live.now.interrupts number) }
+{
+    firmware::end(pes, tables.sizes.interrupts, live.interrupts, number)
+}
+
+// A new priority of an interrupt; `pes` is N.
+#[inline(always)]
+fn prioritize(
+    pes: u16,
+    tables: &Tables<'_>,
+    live: &LiveRef<'_>,
+    number: u64,
+    priority: u64,
+) -> Check
+    ensures { result ≡ by_owner (λ p. Ready p (on_good (interrupt_in live.now.interrupts number) (prioritized number priority (interrupt_in live.now.interrupts number)))) (of_interrupt pes tables.now.sizes.interrupts live.now.interrupts number) }
+{
+    let count = tables.sizes.interrupts;
+    firmware::prioritize(pes, count, live.interrupts, number, priority)
 }
 
 // A request that is well formed; `pes` is N.
@@ -110,11 +136,11 @@ fn ask(
     fenced: bool,
     pes: u16,
     tables: &Tables<'_>,
-    live: &Live<'_>,
+    live: &LiveRef<'_>,
     request: Request,
 ) -> Result<Check, Reason>
     requires { (formed request ≡ true) × (pes ≡ tables.now.sizes.pes) }
-    ensures { settled result ≡ past_fence fenced request (asked tables.now.sizes tables.now.installed tables.now.requesters tables.now.entries tables.now.windows tables.now.segments (seen live.now) request (owner_in tables.now.sizes tables.now.requesters tables.now.windows tables.now.segments (seen live.now).interrupts request)) }
+    ensures { settled result ≡ past_fence fenced request (asked tables.now.sizes tables.now.installed tables.now.requesters tables.now.entries tables.now.windows tables.now.segments live.now request (owner_in tables.now.sizes tables.now.requesters tables.now.windows tables.now.segments live.now.interrupts request)) }
 {
     match request {
         Request::Dma(dma) => {
@@ -130,7 +156,7 @@ fn ask(
                 return Ok(Check::Kept(Answer::Ones { reason, value }));
             }
             let reason = Reason::MmioStopped;
-            access(pes, tables, live, address, Answer::Ones { reason, value })
+            Ok(access(pes, tables, live, address, Answer::Ones { reason, value }))
         }
         Request::Store { address, width: _ } => {
             if fenced {
@@ -138,7 +164,7 @@ fn ask(
                 return Ok(Check::Kept(Answer::Drop { reason }));
             }
             let reason = Reason::MmioStopped;
-            access(pes, tables, live, address, Answer::Drop { reason })
+            Ok(access(pes, tables, live, address, Answer::Drop { reason }))
         }
         Request::Error { requester } => {
             if fenced {
@@ -146,12 +172,12 @@ fn ask(
             }
             error_message(pes, tables, requester)
         }
-        Request::Clear { pe, part } => firmware::clear(pes, pe, part),
-        Request::End { interrupt } => firmware::end(pes, tables, live, interrupt),
+        Request::Clear { pe, part } => Ok(firmware::clear(pes, pe, part)),
+        Request::End { interrupt } => Ok(end(pes, tables, live, interrupt)),
         Request::Priority {
             interrupt,
             priority,
-        } => firmware::prioritize(pes, tables, live, interrupt, priority),
+        } => Ok(prioritize(pes, tables, live, interrupt, priority)),
         Request::Fatal { requester } => fatal_message(pes, tables, requester),
         Request::FenceClear => Ok(Check::Fences(false)),
         Request::Unnamed => Err(Reason::BadRequest),
@@ -159,35 +185,48 @@ fn ask(
 }
 
 #[inline(always)]
-fn is_fenced(tables: &Tables<'_>, live: &Live<'_>) -> bool
-    ensures { result ≡ fenced (at (seen live.now).state (fence_word tables.now.sizes.pes)) }
+fn is_fenced(tables: &Tables<'_>, live: &LiveRef<'_>) -> bool
+    ensures { result ≡ fenced (at live.now.state (fence_word tables.now.sizes.pes)) }
 {
     fence::is_fenced(fence::fence_word(live.state, tables.sizes.pes))
 }
 
-// Reason 1, then 2, then the rest; `memory` is the length of memory.
+// Reason 1 by the lengths, then 2, then the rest.
 #[inline(always)]
 fn pass_checks(
     tables: &Tables<'_>,
-    memory: usize,
-    live: &Live<'_>,
+    lengths: Lengths,
+    live: &LiveRef<'_>,
     request: Request,
 ) -> Result<Check, Reason>
-    ensures { settled result ≡ checked_on tables.now memory (seen live.now) request }
+    ensures { settled result ≡ checked tables.now.sizes tables.now.installed tables.now.requesters tables.now.entries tables.now.windows tables.now.segments live.now (sized tables.now.sizes lengths) request }
 {
-    let pes = tables.sized_pes(memory, live)?;
+    let pes = tables.pes_by_lengths(lengths)?;
     if !forms::is_formed(request) {
         return Err(Reason::BadRequest);
     }
     ask(is_fenced(tables, live), pes, tables, live, request)
 }
 
+/// All checks before the walk, of tables whose lengths are taken to be `lengths`, in their own words. No memory is lent.
+#[inline(always)]
+pub fn check_by_lengths(
+    tables: &Tables<'_>,
+    lengths: Lengths,
+    live: &LiveRef<'_>,
+    request: Request,
+) -> Check
+    ensures { result ≡ checked tables.now.sizes tables.now.installed tables.now.requesters tables.now.entries tables.now.windows tables.now.segments live.now (sized tables.now.sizes lengths) request }
+{
+    outcomes::settled(pass_checks(tables, lengths, live, request))
+}
+
 /// All checks before the walk. No memory is lent: `memory` is its length, in words of 8 bytes.
 #[inline(always)]
-pub fn check(tables: &Tables<'_>, memory: usize, live: &Live<'_>, request: Request) -> Check
-    ensures { result ≡ checked_on tables.now memory (seen live.now) request }
+pub fn check(tables: &Tables<'_>, memory: usize, live: &LiveRef<'_>, request: Request) -> Check
+    ensures { result ≡ checked_on tables.now memory live.now request }
 {
-    outcomes::settled(pass_checks(tables, memory, live, request))
+    check_by_lengths(tables, tables.lengths(memory, live), live, request)
 }
 
 /// What is left after the checks: the walk, the only reader of memory. `installed` is the installed size in bytes.
@@ -209,8 +248,8 @@ pub fn finish(installed: u64, memory: &[u64], check: Check) -> Outcome
 
 /// The answer to a request and its effect, whatever the lengths of the tables.
 #[inline(always)]
-pub fn decide(tables: &Tables<'_>, memory: &[u64], live: &Live<'_>, request: Request) -> Outcome
-    ensures { result ≡ decided tables.now memory.now (seen live.now) request }
+pub fn decide(tables: &Tables<'_>, memory: &[u64], live: &LiveRef<'_>, request: Request) -> Outcome
+    ensures { result ≡ decided tables.now memory.now live.now request }
 {
     let checked = check(tables, memory.len(), live, request);
     finish(tables.installed, memory, checked)

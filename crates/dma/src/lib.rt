@@ -3,13 +3,11 @@
 
 ghost use Rattle.std.specs.Prelude.{◌≡◌};
 ghost use Rattle.kinds.specs.declared.outcome.Check.TheVariants.{Ready, Walk};
-ghost use Rattle.kinds.specs.Outcome.{settled};
 ghost use Rattle.kinds.specs.Words.{at};
 ghost use Rattle.profile.specs.Entry.{class_of};
 ghost use Rattle.profile.specs.Freeze.{stop_word};
 ghost use Rattle.profile.specs.Msi.{msi, msi_formed};
 ghost use Rattle.profile.specs.Step.{installed_to, last_test, outcome_of, reached, by_entry, served, dma_asked, finish};
-ghost use Rattle.tables.specs.Lent.{seen};
 
 use dma_entry::addresses;
 use dma_entry::ask::{self, Way};
@@ -23,7 +21,7 @@ use kinds::record::TranslationEntry;
 use kinds::request::{AddressClass, DmaRequest};
 use msi::{self, interrupts};
 use outcomes;
-use tables::lent::{Live, Tables};
+use tables::lent::{LiveRef, Tables};
 
 // Whether the last of the bytes from a system address is below the installed size. No sum is made that could pass 2^64 - 1, and the address, which is
 // known last, is compared once.
@@ -141,8 +139,8 @@ fn deliver(count: u64, interrupts: &[u64], pe: PeNumber, dma: DmaRequest, number
 // A DMA of a PE that is not stopped, by the class of its address.
 #[inline(always)]
 #[tactic(auto, unfolding(profile::specs::Step::served))]
-fn by_class(tables: &Tables<'_>, live: &Live<'_>, pe: PeNumber, dma: DmaRequest) -> Check
-    ensures { result ≡ served (class_of dma.address) tables.now.sizes.interrupts tables.now.installed tables.now.entries (seen live.now).interrupts pe dma }
+fn by_class(tables: &Tables<'_>, live: &LiveRef<'_>, pe: PeNumber, dma: DmaRequest) -> Check
+    ensures { result ≡ served (class_of dma.address) tables.now.sizes.interrupts tables.now.installed tables.now.entries live.now.interrupts pe dma }
 {
     let address = dma.address;
     let count = tables.sizes.interrupts;
@@ -167,22 +165,17 @@ fn by_class(tables: &Tables<'_>, live: &Live<'_>, pe: PeNumber, dma: DmaRequest)
     }
 }
 
-/// A DMA of a PE, as far as no memory is read; one of a stopped PE is refused.
+/// A DMA of a PE, as far as no memory is read; one of a stopped PE is refused with `DmaStopped`.
 #[inline(always)]
 #[tactic(auto, unfolding(profile::specs::Step::dma_asked))]
-pub fn check_dma(
-    tables: &Tables<'_>,
-    live: &Live<'_>,
-    pe: PeNumber,
-    dma: DmaRequest,
-) -> Result<Check, Reason>
-    ensures { settled result ≡ dma_asked tables.now.sizes.interrupts tables.now.installed tables.now.entries (seen live.now).interrupts (at (seen live.now).state (stop_word pe)) pe dma }
+pub fn check_dma(tables: &Tables<'_>, live: &LiveRef<'_>, pe: PeNumber, dma: DmaRequest) -> Check
+    ensures { result ≡ dma_asked tables.now.sizes.interrupts tables.now.installed tables.now.entries live.now.interrupts (at live.now.state (stop_word pe)) pe dma }
 {
     let stop = endpoints::stop_word(live.state, pe);
     if endpoints::dma_stopped(stop) {
-        return Err(Reason::DmaStopped);
+        return outcomes::refuse(Reason::DmaStopped);
     }
-    Ok(by_class(tables, live, pe, dma))
+    by_class(tables, live, pe, dma)
 }
 
 /// A DMA of a PE by the walk of its page: the only reader of memory. The installed size comes first.

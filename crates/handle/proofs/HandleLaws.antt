@@ -70,7 +70,7 @@ module _ (f : Tables) (m : List ℕ) (s : Live) (q : Request) {c : Check} (is : 
       rw said (placed f m (owner f s q) x s
       (checked-owner f.sizes f.installed f.requesters f.entries f.windows f.segments s (sized f.sizes (lengths f (length m) s)) q))
 
-  handled : {o : Outcome} {t : Live} → o ≡ finish f.installed m x → t ≡ act f.sizes.pes f.peers (pe_of x) o.effect s → Handled f m s q o.answer t
+  pub handled : {o : Outcome} {t : Live} → o ≡ finish f.installed m x → t ≡ act f.sizes.pes f.peers (pe_of x) o.effect s → Handled f m s q o.answer t
   handled said acts = record {
     answers = ap (λ (u : Outcome). u.answer) said;
     numbers = ap (λ (u : Outcome). numbered u.answer) said;

@@ -3,7 +3,7 @@
 
 ghost use Rattle.std.specs.Prelude.{◌≡◌};
 ghost use Rattle.profile.specs.Freeze.{taken};
-ghost use Rattle.profile.specs.Step.{act, finish, whole};
+ghost use Rattle.profile.specs.Step.{act, checked_on, finish, whole};
 ghost use Rattle.kinds.specs.declared.answer.Answer.TheVariants.{Done};
 ghost use Rattle.kinds.specs.declared.outcome.Check.TheVariants.{Walk};
 ghost use Rattle.kinds.specs.declared.outcome.Effect.TheVariants.{Fence};
@@ -11,7 +11,6 @@ ghost use Rattle.tables.specs.Lent.{seen, Same, Becomes};
 ghost use Rattle.handle.specs.Promise.{Handled};
 
 use decide;
-use dma;
 use endpoints;
 use fence;
 use freeze;
@@ -72,13 +71,15 @@ pub fn carry_out(tables: &Tables<'_>, live: &mut Live<'_>, pe: PeNumber, outcome
 }
 
 /// The fence bit becomes `bit`, which is done.
+// The fence is no PE's: its effect is the same at any.
 #[inline(always)]
-#[tactic(auto, unfolding(profile::specs::Step::whole))]
+#[tactic(auto, unfolding(profile::specs::Step::act))]
 pub fn change_fence(tables: &Tables<'_>, live: &mut Live<'_>, bit: bool) -> Answer
     ensures answers { result ≡ Done }
     ensures leaves { Becomes live.old live.new (whole tables.now.sizes.pes (Fence bit) (seen live.old)) }
 {
-    fence::set_fence(live.state, tables.sizes.pes, bit);
+    let effect = Effect::Fence { bit };
+    act_at(tables.sizes.pes, tables.peers, live, PeNumber(0), effect);
     Answer::Done
 }
 
@@ -93,7 +94,15 @@ pub fn walk(
 ) -> Outcome
     ensures { result ≡ finish tables.now.installed memory.now (Walk pe entry dma) }
 {
-    dma::finish_walk(tables.installed, memory, pe, entry, dma)
+    decide::finish(tables.installed, memory, Check::Walk(pe, entry, dma))
+}
+
+// All checks before the walk, on tables that are lent to be written. No memory is lent: `memory` is its length, in words of 8 bytes.
+#[inline(always)]
+fn check_live(tables: &Tables<'_>, memory: usize, live: &Live<'_>, request: Request) -> Check
+    ensures { result ≡ checked_on tables.now memory (seen live.now) request }
+{
+    decide::check(tables, memory, &live.read(), request)
 }
 
 /// Any request on any tables.
@@ -103,7 +112,7 @@ pub fn handle(tables: &Tables<'_>, memory: &[u64], live: &mut Live<'_>, request:
     ensures handled { Handled tables.now memory.now (seen live.old) request result (seen live.new) }
     ensures same { Same live.old live.new }
 {
-    match decide::check(tables, memory.len(), live, request) {
+    match check_live(tables, memory.len(), live, request) {
         Check::Kept(answer) => answer,
         Check::Ready(pe, outcome) => carry_out(tables, live, pe, outcome),
         Check::Walk(pe, entry, dma) => {

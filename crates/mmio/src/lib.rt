@@ -2,7 +2,6 @@
 #![tactic(auto)]
 
 ghost use Rattle.std.specs.Prelude.{◌≡◌, min};
-ghost use Rattle.kinds.specs.Outcome.{settled};
 ghost use Rattle.kinds.specs.Words.{at};
 ghost use Rattle.kinds.specs.declared.outcome.Check.TheVariants.{Kept};
 ghost use Rattle.owners.specs.ByOwner.{by_owner};
@@ -12,10 +11,11 @@ ghost use Rattle.profile.specs.Step.{accessed};
 ghost use Rattle.profile.specs.Windows.{ones_of};
 
 use endpoints;
-use kinds::answer::{Answer, Reason};
+use kinds::answer::Answer;
 use kinds::lookup::Hit;
 use kinds::number::PeNumber;
 use kinds::outcome::Check;
+use outcomes;
 use owners;
 
 // A load or store of a PE, by the PE's stop word; `stopped` is its answer where the PE is MMIO stopped.
@@ -45,17 +45,14 @@ pub fn ones(width: u64) -> u64
     }
 }
 
-/// A load or store, by the owner of its window; `stopped` is the answer where that PE is MMIO stopped. The error is `NoWindow`, where it has none.
+/// A load or store, by the owner of its window; `stopped` is the answer where that PE is MMIO stopped. Refused with `NoWindow` where it has none.
 #[tactic(auto, unfolding(owners::specs::ByOwner::by_owner))]
-pub fn access_of(
-    pes: u16,
-    state: &[u64],
-    hit: Option<Hit>,
-    stopped: Answer,
-) -> Result<Check, Reason>
-    ensures { settled result ≡ by_owner (λ p. Kept (accessed hit p (at state.now (stop_word p)) stopped)) (of_hit pes hit) }
+pub fn access_of(pes: u16, state: &[u64], hit: Option<Hit>, stopped: Answer) -> Check
+    ensures { result ≡ by_owner (λ p. Kept (accessed hit p (at state.now (stop_word p)) stopped)) (of_hit pes hit) }
 {
-    let pe = owners::of_hit(pes, hit)?;
-    let stop = endpoints::stop_word(state, pe);
-    Ok(Check::Kept(access(hit, pe, stop, stopped)))
+    let owner = owners::of_hit(pes, hit);
+    owner.map_or_else(outcomes::refuse, |pe| {
+        let stop = endpoints::stop_word(state, pe);
+        Check::Kept(access(hit, pe, stop, stopped))
+    })
 }

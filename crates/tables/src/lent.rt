@@ -38,11 +38,39 @@ pub struct Live<'a> {
     pub interrupts: &'a mut [u64],
 }
 
+impl<'a> Live<'a> {
+    /// The same tables, to be read.
+    #[inline(always)]
+    pub fn read(&self) -> LiveRef<'_>
+        ensures { result ≡ seen self.now }
+    {
+        LiveRef {
+            state: self.state,
+            interrupts: self.interrupts,
+        }
+    }
+}
+
+/// The tables that requests write, lent to be read. Whoever has them as shared slices can make one.
+#[derive(Drop)]
+pub struct LiveRef<'a> {
+    pub state: &'a [u64],
+    pub interrupts: &'a [u64],
+}
+
+impl<'a> Model for LiveRef<'a> {
+    ghost use Rattle.profile.specs.Tables.{Live as Held};
+
+    ghost Value = { Held };
+
+    ghost view = { λ l. record { state = l.state.now; interrupts = l.interrupts.now } };
+}
+
 impl<'a> Tables<'a> {
     /// The lengths of all lent tables, in their own words; `memory` is that of memory, in words of 8 bytes.
     #[inline(always)]
-    pub fn lengths(&self, memory: usize, live: &Live<'_>) -> Lengths
-        ensures { result ≡ lengths self.now memory (seen live.now) }
+    pub fn lengths(&self, memory: usize, live: &LiveRef<'_>) -> Lengths
+        ensures { result ≡ lengths self.now memory live.now }
     {
         Lengths {
             requesters: self.requesters.len() as u64,
@@ -56,11 +84,19 @@ impl<'a> Tables<'a> {
         }
     }
 
+    /// N. The error is reason 1, where N, M, R or one of `lengths` is not on the table of the profile.
+    #[inline(always)]
+    pub fn pes_by_lengths(&self, lengths: Lengths) -> Result<u16, Reason>
+        ensures { result ≡ cond (sized self.now.sizes lengths) (Ok self.now.sizes.pes) (Err TableLength) }
+    {
+        pes_of(self.sizes, lengths)
+    }
+
     /// N. The error is reason 1, where N, M, R or a length is not on the table of the profile. `memory` is the length of memory, in words of 8 bytes.
     #[inline(always)]
-    pub fn sized_pes(&self, memory: usize, live: &Live<'_>) -> Result<u16, Reason>
-        ensures { result ≡ cond (sized self.now.sizes (lengths self.now memory (seen live.now))) (Ok self.now.sizes.pes) (Err TableLength) }
+    pub fn sized_pes(&self, memory: usize, live: &LiveRef<'_>) -> Result<u16, Reason>
+        ensures { result ≡ cond (sized self.now.sizes (lengths self.now memory live.now)) (Ok self.now.sizes.pes) (Err TableLength) }
     {
-        pes_of(self.sizes, self.lengths(memory, live))
+        self.pes_by_lengths(self.lengths(memory, live))
     }
 }
