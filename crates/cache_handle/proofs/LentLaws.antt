@@ -1,4 +1,4 @@
--- The checks and their finish, as the code has them, are the definition's, with a cache and without one.
+-- The checks and their finish over both bridges are the definition's, with a cache and without one.
 --     finished_by_lem, filled_by_lem  the outcome and the cache, of every check
 --     uncached_fill       without a cache none is filled
 --     looked-pe, looked-kept  the PE of a check, and one that is answered, are the same after the cache was looked at

@@ -1,4 +1,5 @@
--- The lent slices of the bridge with a cache, and the checks and their finish as the code has them: with a cache or without one, which b says.
+-- The lent slices of the bridge with a cache, and definitions over both bridges, with a cache or without one, which b says: the checks, what the cache says of
+-- them, and what is left of them.
 --     held m s c          memory m, what is written s and cache c; lent m t i c: s being state t and interrupts i
 --     either_sized b n ok  not reason 1: ok says it of the other tables, n is the length of the cache
 --     either_looked b i c x   the checks x after the cache c was looked at, with a cache
