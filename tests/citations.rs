@@ -115,12 +115,26 @@ fn declares(file: &str, name: &str) -> bool {
     })
 }
 
+/// The lines of a program, those in an `impl` without their margin.
+fn declarations(text: &str) -> Vec<&str> {
+    let mut in_impl = false;
+    let mut lines = Vec::new();
+    for line in text.lines() {
+        if line.starts_with(char::is_alphabetic) {
+            in_impl = line.starts_with("impl");
+        }
+        let margin = if in_impl { "    " } else { "" };
+        lines.push(line.strip_prefix(margin).unwrap_or(line));
+    }
+    lines
+}
+
 /// Whether a crate, or one module of it, has a function or a method of this name or passes one on.
 fn has_function(path: &str) -> bool {
     let parts = path.split("::").collect::<Vec<_>>();
     let found = |file: &String| {
         (parts.len() < 3 || stem(file) == parts[1])
-            && read(file).lines().map(str::trim_start).flat_map(items).any(|item| {
+            && declarations(&read(file)).into_iter().flat_map(items).any(|item| {
                 ["fn", "use"].contains(&item.kind) && item.name == parts[parts.len() - 1]
             })
     };

@@ -7,7 +7,8 @@
 //
 // A promise is what stands in the `ensures` clauses at the head of a function. Its definitions are the names in it that the file takes from
 // `specs` or `proofs` of a crate. An edit is one of a public function if the text that it replaces stands in the function, or in a private
-// function or a constant of the same crate that it uses, itself or through private ones.
+// function or a constant of the same crate that it uses, itself or through private ones. A conversion, an `impl` of From or of TryFrom, is a
+// public function too: its promise is what it gives, and an enum that its head names is a constant that it uses.
 
 use std::collections::BTreeSet;
 use std::env;
@@ -15,8 +16,9 @@ use std::fs;
 use std::path::Path;
 use std::process::exit;
 
-/// A function, or a constant with what it is as its body.
+/// A function, a constant with what it is as its body, or an enum, which uses nothing.
 struct Item {
+    /// Of a conversion the head of its `impl`.
     name: String,
     constant: bool,
     /// The path of its source below the crate's folder, as in `src/lib.rt`.
@@ -121,6 +123,12 @@ fn constant(line: &str) -> Option<&str> {
     is_constant(name).then_some(name)
 }
 
+/// The name of an enum that a line declares.
+fn enumeration(line: &str) -> Option<&str> {
+    let line = line.strip_prefix("pub ").or(line.strip_prefix("pub(crate) ")).unwrap_or(line);
+    line.strip_prefix("enum ").map(front)
+}
+
 /// The text between a bracket, the first of its kind in a text, and the one that closes it; none where there is no such bracket.
 fn bracketed(text: &str, open: char, close: char) -> Option<&str> {
     let from = text.find(open)? + open.len_utf8();
@@ -143,24 +151,36 @@ fn clauses(head: &str, kind: &str) -> Vec<String> {
     texts.map(|text| text.split_whitespace().collect::<Vec<_>>().join(" ")).collect()
 }
 
-/// The functions and constants of a source: each begins at the left margin, or as a method in an `impl` that does; a function ends with the first `}`
-/// below its first letter, a constant with `;`. A constant that is taken from elsewhere is where it is named.
+/// What a conversion promises: in the `impl` of it, what stands in braces after `from_gives =` or `try_from_gives =`.
+fn gives(conversion: &str) -> Vec<String> {
+    let given = conversion.split_once("from_gives =").map(|(_, rest)| rest);
+    let given = given.and_then(|rest| bracketed(rest, '{', '}'));
+    given.map(|text| text.trim().to_string()).into_iter().collect()
+}
+
+/// The functions, constants and enums of a source: each begins at the left margin, or as a method in an `impl` that does; a function ends with the first `}`
+/// below its first letter, as an enum does, a constant with `;`. A constant that is taken from elsewhere is where it is named.
 fn items(file: &str, text: &str) -> Vec<Item> {
     let mut items = Vec::new();
     let mut at = 0;
-    let mut in_impl = false;
+    let mut of_impl = "";
     let taken = imports(text);
+    let to_close = |start: usize, close: &str| {
+        start + text[start..].find(close).map_or(text.len() - start, |n| n + close.len())
+    };
     for line in text.split_inclusive('\n') {
         let start = at;
         at += line.len();
         if line.starts_with(is_word) {
-            in_impl = line.starts_with("impl");
+            let in_impl = line.starts_with("impl");
+            of_impl = if in_impl { &text[start..to_close(start, "\n}")] } else { "" };
         }
-        let own = constant(line).map(str::to_string);
+        let own = constant(line).or(enumeration(line)).map(str::to_string);
         let others = taken.iter().filter(|(place, _, _)| *place == start);
         let others = others.map(|(_, path, _)| path.rsplit("::").next().unwrap().to_string());
         for name in own.into_iter().chain(others.filter(|name| is_constant(name))) {
-            let end = start + text[start..].find(";\n").map_or(text.len() - start, |n| n + 1);
+            let is_enum = enumeration(line).is_some();
+            let end = to_close(start, if is_enum { "\n}" } else { ";\n" });
             items.push(Item {
                 name,
                 constant: true,
@@ -171,10 +191,10 @@ fn items(file: &str, text: &str) -> Vec<Item> {
                 arguments: Vec::new(),
                 requires: false,
                 ensures: Vec::new(),
-                body: text[start..end].to_string(),
+                body: if is_enum { String::new() } else { text[start..end].to_string() },
             });
         }
-        let margin = if in_impl { "    " } else { "" };
+        let margin = if of_impl.is_empty() { "" } else { "    " };
         let declared = line.strip_prefix(margin).unwrap_or(line);
         let (public, rest) = match declared.strip_prefix("pub ") {
             Some(rest) => (true, rest),
@@ -184,18 +204,23 @@ fn items(file: &str, text: &str) -> Vec<Item> {
         else {
             continue;
         };
-        let close = format!("\n{margin}}}");
-        let length = text[start..].find(&close).map_or(text.len() - start, |n| n + close.len());
-        let end = start + length;
+        let end = to_close(start, &format!("\n{margin}}}"));
         let whole = &text[start..end].replace(&format!("\n{margin}"), "\n");
         let parts = whole.split_once("\n{").or(whole.split_once(" {\n"));
         let (head, body) = parts.unwrap_or((whole, ""));
         let list = bracketed(head, '(', ')').unwrap_or("");
+        let impl_head = of_impl.split(" {").next().unwrap();
+        let marks = ["impl From<", "impl TryFrom<"];
+        let conversion = marks.iter().any(|mark| impl_head.starts_with(mark));
+        let (name, ensures, body) = match conversion {
+            true => (impl_head, gives(of_impl), format!("{impl_head}\n{body}")),
+            false => (front(rest), clauses(head, "ensures"), body.to_string()),
+        };
         items.push(Item {
-            name: front(rest).to_string(),
+            name: name.to_string(),
             constant: false,
             file: file.to_string(),
-            public,
+            public: public || conversion,
             start,
             end,
             arguments: list
@@ -204,8 +229,8 @@ fn items(file: &str, text: &str) -> Vec<Item> {
                 .map(|(name, _)| name.trim().trim_start_matches("mut ").to_string())
                 .collect(),
             requires: !clauses(head, "requires").is_empty(),
-            ensures: clauses(head, "ensures"),
-            body: body.to_string(),
+            ensures,
+            body,
         });
     }
     items
@@ -236,17 +261,21 @@ fn read_crates() -> Vec<Crate> {
     names.iter().map(read_crate).collect()
 }
 
-/// What a text uses, each as a path (or nothing) and a name: functions that it calls, constants.
-fn uses(body: &str) -> Vec<(String, String)> {
+/// What an item uses, each as a path (or nothing) and a name: functions that it calls or hands to a method as they are, constants and enums.
+fn uses(item: &Item) -> Vec<(String, String)> {
     let mut uses = Vec::new();
-    for line in body.lines().map(|line| line.split("//").next().unwrap()) {
+    for line in item.body.lines().map(|line| line.split("//").next().unwrap()) {
         let parts = line.split_inclusive(|c| !is_word(c) && c != ':').collect::<Vec<_>>();
-        for part in parts {
+        for (k, part) in parts.iter().enumerate() {
             let path = part.trim_end_matches(|c| !is_word(c));
             let (before, name) = path.rsplit_once("::").unwrap_or(("", path));
             let call = part.ends_with('(') || part.ends_with("::<");
-            let call = call && name.starts_with(char::is_lowercase);
-            if call || name.starts_with(char::is_uppercase) {
+            // as `fault_of` in `found.map_err(fault_of)`; an argument of that name is no function
+            let alone = k > 1 && parts[k - 2].ends_with('.') && parts[k - 1].ends_with('(');
+            let alone = alone && part.ends_with(')');
+            let handed_on = alone && item.arguments.iter().all(|argument| argument != path);
+            let function = (call || handed_on) && name.starts_with(char::is_lowercase);
+            if function || name.starts_with(char::is_uppercase) {
                 uses.push((before.to_string(), name.to_string()));
             }
         }
@@ -255,16 +284,17 @@ fn uses(body: &str) -> Vec<(String, String)> {
 }
 
 impl Crate {
-    /// `crate::name` of a public function; with its module where the crate has two of the name.
+    /// `crate::name` of a public function; with its module where the crate has two of the name. Of a conversion the crate, and the head of its `impl`.
     fn citation(&self, function: &Item) -> String {
         let same = self.items.iter().filter(|f| f.public && f.name == function.name).count();
         match same > 1 {
+            _ if function.name.starts_with("impl ") => format!("{}: {}", self.name, function.name),
             true => format!("{}::{}::{}", self.name, stem(&function.file), function.name),
             false => format!("{}::{}", self.name, function.name),
         }
     }
 
-    /// The function or constant of this crate that `caller` means.
+    /// The function, constant or enum of this crate that `caller` means.
     fn meant(&self, caller: &Item, used: &(String, String)) -> Option<usize> {
         let (path, name) = used;
         let prefix = path.rsplit("::").next().unwrap();
@@ -282,13 +312,13 @@ impl Crate {
         self.items.iter().position(|f| std::ptr::eq(f, *best))
     }
 
-    /// A public function with the private ones and the constants that it uses, itself or through private ones.
+    /// A public function with the private ones, the constants and the enums that it uses, itself or through private ones.
     fn reach(&self, from: usize) -> Vec<usize> {
         let mut reached = vec![from];
         let mut k = 0;
         while k < reached.len() {
             let caller = &self.items[reached[k]];
-            for name in uses(&caller.body) {
+            for name in uses(caller) {
                 if let Some(n) = self.meant(caller, &name) {
                     if !self.items[n].public && !reached.contains(&n) {
                         reached.push(n);
@@ -303,10 +333,11 @@ impl Crate {
 
 // ---- Promises ----
 
-/// The names that a source takes from `specs` or `proofs` of a crate: the name as it is written there, and the citation.
+/// The names that a source, or an `impl` in it, takes from `specs` or `proofs` of a crate: the name as it is written there, and the citation.
 fn taken(text: &str) -> Vec<(String, String)> {
     let mut taken = Vec::new();
-    for (_, path) in statements(text, "ghost use Rattle.") {
+    let text = text.replace("\n    ghost use ", "\nghost use ");
+    for (_, path) in statements(&text, "ghost use Rattle.") {
         let parts = path.split_once(".specs.").or(path.split_once(".proofs."));
         let Some((name, rest)) = parts.filter(|(_, rest)| !rest.starts_with("declared.")) else {
             continue;
@@ -385,18 +416,35 @@ fn definitions(text: &str, function: &Item) -> Vec<String> {
     found
 }
 
-/// Whether a clause states results as equal: it is an equation, or a record or product of equations and of claims that have a name, whatever they are about.
+/// Whether a clause states results as equal: it is an equation, or a record or product of equations, of claims that have a name, and of records of equations
+/// that stand in the same file.
 fn is_equation(text: &str, function: &Item, clause: &str) -> bool {
     if clause.contains(" ≡ ") {
         return !clause.contains(" ≤ ") && !clause.contains(" < ");
     }
-    let block = named(text, function, clause).first().map(|c| declared(c)).unwrap_or_default();
-    let parts = block.iter().skip(1).filter(|line| !line.trim_start().starts_with("--"));
-    let stated = |line: &String| {
-        let field = line.split_once(" : ").map(|(_, of)| of);
-        line.contains(" ≡ ") || field.is_some_and(|of| of.chars().all(|c| is_word(c) || c == ' '))
+    let named = named(text, function, clause);
+    let Some((file, name)) = named.first().and_then(|citation| citation.split_once('.')) else {
+        return false;
     };
-    block.len() > 1 && parts.clone().all(stated)
+    let is_stated = |line: &String| {
+        let field = line.split_once(" : ").map_or("", |(_, of)| of);
+        match field.split_once(' ') {
+            _ if line.contains(" ≡ ") => true,
+            Some((head, _)) => {
+                let record = declared(&format!("{file}.{head}"));
+                record.first().is_some_and(|line| line.contains("record "))
+                    && has_parts(&record, |line| line.contains(" ≡ "))
+            }
+            None => !field.is_empty() && field.chars().all(is_word),
+        }
+    };
+    has_parts(&declared(&format!("{file}.{name}")), is_stated)
+}
+
+/// Whether what is declared in some lines has parts, its fields or what it equals, and each is as asked.
+fn has_parts(lines: &[String], asked: impl Fn(&String) -> bool) -> bool {
+    let parts = lines.iter().skip(1).filter(|line| !line.trim_start().starts_with("--"));
+    lines.len() > 1 && parts.into_iter().all(asked)
 }
 
 // ---- Edits ----
@@ -426,7 +474,7 @@ fn edits(of: &Crate) -> Vec<(String, BTreeSet<usize>)> {
 fn called(crates: &[Crate], of: &Crate, callers: &[usize]) -> Vec<String> {
     let mut called: Vec<String> = Vec::new();
     for caller in callers.iter().map(|&k| &of.items[k]).filter(|f| !f.constant) {
-        for used in uses(&caller.body) {
+        for used in uses(caller) {
             let own = of.meant(caller, &used).map(|k| (of, &of.items[k]));
             let first = used.0.split("::").next().unwrap();
             let source = of.sources.iter().find(|(file, _)| *file == caller.file);
@@ -498,7 +546,7 @@ fn main() {
     }
     if !list {
         wrong.iter().for_each(|line| println!("{line}"));
-        println!("{count} public functions, {with_edit} of them with an edit of their own");
+        println!("{count} public functions and conversions, {with_edit} with an edit of their own");
         exit(i32::from(!wrong.is_empty()))
     }
 }
