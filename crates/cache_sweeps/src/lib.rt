@@ -16,7 +16,10 @@ use dma_walk::touch::touches;
 use kinds::number::{ByteAddress, PageNumber, PeNumber};
 use tables::words::{put, word};
 
+// Each sweep is a function of its own, for speed: in line in the loop of the bridge it keeps its counter in memory.
+
 /// Each full slot is emptied.
+#[inline(never)]
 pub fn drop_all(cache: &mut [u64])
     ensures { cache.new ≡ sweep any_slot cache.old }
 {
@@ -24,6 +27,7 @@ pub fn drop_all(cache: &mut [u64])
 }
 
 /// Each slot of a PE is emptied.
+#[inline(never)]
 pub fn drop_pe(cache: &mut [u64], pe: u64)
     ensures { cache.new ≡ sweep (its_slots pe) cache.old }
 {
@@ -45,6 +49,7 @@ pub fn drop_page(entries: &[u64], cache: &mut [u64], pe: PeNumber, address: Byte
 
 /// Each slot of a page is emptied, by its key: the number of its PE, its half (0 or 1) and its page number. Any three numbers are taken; those of no page name none of
 /// the slots that the rule fills.
+#[inline(never)]
 pub fn drop_key(cache: &mut [u64], pe: u64, half: u64, page: u64)
     ensures { cache.new ≡ sweep (of_page pe half page) cache.old }
 {
@@ -55,6 +60,7 @@ pub fn drop_key(cache: &mut [u64], pe: u64, half: u64, page: u64)
 
 /// Each slot is emptied whose page is walked through a memory word; `pes` is N.
 // Kept: N, the lists and the word one by one, as the definitions `of_entries` and `through` take them; `through` below is handed them on.
+#[inline(never)]
 pub fn drop_through(pes: u16, entries: &[u64], memory: &[u64], cache: &mut [u64], word: u64)
     ensures { cache.new ≡ sweep (through (of_entries pes entries.now) memory.now word) cache.old }
 {
