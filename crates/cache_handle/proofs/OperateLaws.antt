@@ -101,7 +101,7 @@ module _ (f : Tables) (m c : List ℕ) (s : Live) (q : Request) {k : Check}
       (looked-placed true f.installed c (owner f s q) (checked_by (fit f z) f s q)
       (checked-owner f.sizes f.installed f.requesters f.entries f.windows f.segments s (fit f z) q)))
 
-  served : {o : Outcome} {t : Live} {d : List ℕ} → o ≡ finish f.installed m y → t ≡ act f.sizes.pes f.peers (pe_of y) o.effect s
+  pub served : {o : Outcome} {t : Live} {d : List ℕ} → o ≡ finish f.installed m y → t ≡ act f.sizes.pes f.peers (pe_of y) o.effect s
       → d ≡ either_filled true f.installed m c y → Served true f z q o.answer (held m t d)
   served said acts fills = record {
     answers = ap (λ (u : Outcome). u.answer) said ∙ either-answers true f z q;

@@ -59,7 +59,7 @@ module _ (l : List ℕ) where
 
 -- one digit more: v is of i digits
 module _ (v i : ℕ) (h : v < 2 ^ (4 * i)) where
-  digit_more : (d : ℕ) → d < 16 → v * 16 + d < 2 ^ (4 * (i + 1))
+  pub digit_more : (d : ℕ) → d < 16 → v * 16 + d < 2 ^ (4 * (i + 1))
   digit_more d k =
       let e : 4 * (i + 1) ≡ 4 * i + 4 = omega arith in
       rw (e, pow-add 2 (4 * i) 4) (omega arith)
