@@ -16,7 +16,7 @@ use dma_walk::touch::touches;
 use kinds::number::{ByteAddress, PageNumber, PeNumber};
 use tables::words::{put, word};
 
-// Each sweep is a function of its own, for speed: in line in the loop of the bridge it keeps its counter in memory.
+// Each sweep is a function of its own, for speed: in line in the loop of the bridge it took longer.
 
 /// Each full slot is emptied.
 #[inline(never)]
